@@ -1,0 +1,5 @@
+pub mod Answers
+pub mod Denials
+pub mod Words
+pub mod Kinds
+pub mod Permuting

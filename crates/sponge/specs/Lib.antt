@@ -1,0 +1,4 @@
+pub mod Digests
+pub mod Streams
+pub mod Calls
+pub mod Overlays

@@ -1,0 +1,4 @@
+pub mod digest;
+pub mod laws;
+pub mod pair;
+pub mod sponge;
