@@ -1,0 +1,7 @@
+-- Written out, both sides are the same 25 lanes.
+use Rattle.keccak.specs.Keccak.{theta}
+use Rattle.keccak.proofs.theta.Needs as need
+
+pub returns : need.returns
+unfolding theta
+returns c = simp (c .effects-d .ensures)

@@ -1,0 +1,4 @@
+pub mod Matrix
+pub mod Permutation
+pub mod Rows
+pub mod Undo

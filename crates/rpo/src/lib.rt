@@ -1,0 +1,5 @@
+pub mod laws;
+mod matrix;
+mod permutation;
+mod rows;
+pub mod sizes;
