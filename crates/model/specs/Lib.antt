@@ -1,0 +1,6 @@
+pub mod Calls
+pub mod Histories
+pub mod Trees
+pub mod Lots
+pub mod Bench
+pub mod Laws
