@@ -3,12 +3,12 @@ mod input;
 mod report;
 
 use crate::input::Input;
-use crate::input::Named;
-use crate::input::Unread;
-use crate::input::UnreadDisplay;
 use crate::input::parse;
-use crate::input::slurp;
 use crate::report::report;
+use console::input::KindName;
+use console::input::Unread;
+use console::input::UnreadDisplay;
+use console::input::slurp;
 use kinds::drill::Drill;
 use kinds::drill::DrillKind;
 use rpo_kinds::rpo128::Rpo128;
@@ -27,9 +27,9 @@ fn main(rt: LibcRuntime) -> io::Result<()> {
         Ok(input) => {
             let Input { kind, words } = input;
             match kind {
-                Named::Drill => report(&rt, &Drill, "drill", &words),
-                Named::Rpo128 => report(&rt, &Rpo128::new(), "rpo-128", &words),
-                Named::Rpo160 => report(&rt, &Rpo160::new(), "rpo-160", &words),
+                KindName::Drill => report(&rt, &Drill, "drill", &words),
+                KindName::Rpo128 => report(&rt, &Rpo128::new(), "rpo-128", &words),
+                KindName::Rpo160 => report(&rt, &Rpo160::new(), "rpo-160", &words),
             }
         }
         Err(why) => println!(rt, "cannot read: {why}"),

@@ -1,29 +1,8 @@
-use kinds::denial::Denial;
-use kinds::denial::Layer;
+use console::output::print_refusal;
+use console::output::print_words;
 use kinds::kind::Kind;
 use sponge::digest::digest;
 use std::io;
-
-// How a layer is written.
-fn layer_name(layer: Layer) -> &'static str {
-    match layer {
-        Layer::Lot => "lot",
-        Layer::Station => "station",
-        Layer::Word => "word",
-        Layer::Finder => "finder",
-        Layer::Script => "script",
-    }
-}
-
-// A refusal: its number, its layer, and the index of a word where there is one.
-fn refuse(rt: &impl Print, why: Denial) -> io::Result<()> {
-    let number = why.number();
-    let layer = layer_name(why.layer());
-    match why.index() {
-        Some(i) => println!(rt, "no {number} {layer} {i}"),
-        None => println!(rt, "no {number} {layer}"),
-    }
-}
 
 // What is done to a record of that length.
 fn explain(rt: &impl Print, length: usize, rate: usize) -> io::Result<()> {
@@ -50,22 +29,14 @@ fn explain(rt: &impl Print, length: usize, rate: usize) -> io::Result<()> {
     }
 }
 
-fn show(rt: &impl Print, words: &[u64]) -> io::Result<()> {
-    print!(rt, "digest:")?;
-    for x in words {
-        print!(rt, " {x}")?;
-    }
-    println!(rt)
-}
-
 // As `report`, with room for the digest.
 fn report_in<K: Kind>(rt: &impl Print, kind: &K, words: &[u64], out: &mut [u64]) -> io::Result<()> {
     match digest(kind, words, out) {
         Ok(()) => {
             explain(rt, words.len(), K::rate())?;
-            show(rt, out)
+            print_words(rt, "digest:", out)
         }
-        Err(why) => refuse(rt, why),
+        Err(why) => print_refusal(rt, why),
     }
 }
 

@@ -4,7 +4,7 @@ use mathlib.Core.List.{List, map}
 use Prim.Native.Nat.{ℕ, suc, _+_, _-_, _*_, _%_, _^_, _<_, _≤_}
 use native.Mathlib.Numerals.{add-one}
 use native.Mathlib.Omega.{arith}
-use lib.ListN.{getD, length, take}
+use lib.ListN.{getD, length}
 use Rattle.std.proofs.shelf.Bits.{mul-le}
 use Rattle.std.proofs.shelf.Counted.{fill-by-all}
 use Rattle.std.proofs.shelf.Lists.{getD-map, length-map}
@@ -13,7 +13,7 @@ use Rattle.field.specs.Lanes.{Lanes}
 use Rattle.field.proofs.Powers.{pow-mod}
 use Rattle.kinds.specs.Kinds.{State}
 use Rattle.rpo.specs.Matrix.{made-by, times, times-at}
-use Rattle.rpo.specs.Permutation.{keyed, unkeyed, raised, half, half-back, round, round-back, forward, backward}
+use Rattle.rpo.specs.Permutation.{keyed, raised, half, half-back, round, round-back, forward, backward}
 use Rattle.rpo.proofs.Inverses.{made-at}
 use Rattle.rpo.proofs.Rounds.{times-state, keyed-state, raised-state, half-state, half-back-state}
 

@@ -1,7 +1,7 @@
 use mathlib.Core.Path.{_≡_, ap, _∙_}
 use borrow.Author.Needs.{needs}
 use lib.ListN.{length, take}
-use Rattle.field.specs.Field.{Elements, exponent-d}
+use Rattle.field.specs.Field.{Elements}
 use Rattle.rpo.specs.Matrix.{times}
 use Rattle.rpo.specs.Permutation.{unkeyed, raised, half-back}
 use Rattle.rpo.proofs.Rounds.{unkeyed-state}

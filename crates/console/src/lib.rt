@@ -1,0 +1,3 @@
+// What the programs share: reading standard input, and writing words and refusals.
+pub mod input;
+pub mod output;

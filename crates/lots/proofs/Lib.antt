@@ -1,0 +1,4 @@
+pub mod Writes
+pub mod Places
+pub mod Levels
+pub mod Steps

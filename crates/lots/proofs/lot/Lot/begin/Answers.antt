@@ -1,0 +1,11 @@
+use native.Mathlib.Omega.{arith}
+use Rattle.kinds.specs.Denials.{told}
+use Rattle.stations.specs.Tables.{all-shown}
+use Rattle.lots.specs.Seen.{seen}
+use Rattle.lots.proofs.Steps.{begun-is}
+use Rattle.lots.proofs.lot.Lot.begin.Needs as need
+
+pub returns : need.returns
+returns g c =
+    let k = g .K·Kind in
+    begun-is (k .c) (k .w) (k .mapping) (seen (k .c) (k .w) (c .args .self .now)) (c .args .station) (omega arith) (all-shown (k .c) (k .w) (c .begin .last .self .table)) (told (c .begin .result)) (c .args .place) (c .args .length) (omega arith) (c .begin .ensures)
