@@ -2,8 +2,8 @@ use console::input::Unread;
 use console::input::parse_numbers;
 use std::alloc::Global;
 
-// What a line asks of a lot.
-#[derive(Clone, Copy)]
+// What a line asks of a lot, filling or closed.
+#[derive(Drop)]
 pub enum Command {
     Make(u8),
     Begin(u8, u16, u16),
@@ -13,6 +13,14 @@ pub enum Command {
     Abandon(u8),
     Clear(u16),
     Root,
+    Close,
+    Open(u16),
+    // Opens a place and checks the path with a record, or with nothing, as the claim.
+    Check(u16, Vec<u64>),
+    CheckEmpty(u16),
+    // Looks for a clash of two openings at the drill kind: depth, place and root, and twice a record of two words and a
+    // path of one.
+    Clash(Vec<u64>),
 }
 
 // A number as a station or a depth; one that is too large stays one that no lot has.
@@ -24,15 +32,15 @@ fn small(x: u64) -> u8 {
 }
 
 // A number as a place or a length.
-fn medium(x: u64) -> u16 {
+pub(crate) fn medium(x: u64) -> u16 {
     match u16::try_from(x) {
         Ok(y) => y,
         Err(_) => u16::MAX,
     }
 }
 
-// The command of a name and its numbers.
-fn command_of(name: &str, n: &[u64]) -> Option<Command> {
+// The command of a name and a few numbers.
+fn short_command(name: &str, n: &[u64]) -> Option<Command> {
     match (name, n) {
         ("make", [d]) => Some(Command::Make(small(*d))),
         ("begin", [s, p, l]) => Some(Command::Begin(small(*s), medium(*p), medium(*l))),
@@ -43,23 +51,45 @@ fn command_of(name: &str, n: &[u64]) -> Option<Command> {
         ("seal", [s]) => Some(Command::Seal(small(*s))),
         ("abandon", [s]) => Some(Command::Abandon(small(*s))),
         ("clear", [p]) => Some(Command::Clear(medium(*p))),
-        ("root", []) => Some(Command::Root),
+        ("open", [p]) => Some(Command::Open(medium(*p))),
+        ("check-empty", [p]) => Some(Command::CheckEmpty(medium(*p))),
         _ => None,
     }
 }
 
+// The command of a name that stands alone.
+fn bare_command(name: &str) -> Option<Command> {
+    match name {
+        "root" => Some(Command::Root),
+        "close" => Some(Command::Close),
+        _ => None,
+    }
+}
+
+// The command of a name and numbers.
+fn command_of(name: &str, mut numbers: Vec<u64>) -> Option<Command> {
+    if name == "clash" && numbers.len() == 9 {
+        return Some(Command::Clash(numbers));
+    }
+    if name == "check" && numbers.len() > 0 {
+        let place = numbers.remove(0);
+        return Some(Command::Check(medium(place), numbers));
+    }
+    short_command(name, &numbers)
+}
+
 // The command of a line.
 pub(crate) fn parse_command(heap: Global, line: usize, text: &str) -> Result<Command, Unread> {
-    let Some((name, rest)) = text.split_once(' ') else {
-        return match command_of(text, &[]) {
-            Some(c) => Ok(c),
-            None => Err(Unread::NoCommand { line }),
-        };
+    let found = match text.split_once(' ') {
+        Some((name, rest)) => {
+            let mut numbers = Vec::new(heap);
+            parse_numbers(&mut numbers, line, 2, rest)?;
+            command_of(name, numbers)
+        }
+        None => bare_command(text),
     };
-    let mut numbers = Vec::new(heap);
-    parse_numbers(&mut numbers, line, 2, rest)?;
-    match command_of(name, &numbers) {
-        Some(c) => Ok(c),
+    match found {
+        Some(command) => Ok(command),
         None => Err(Unread::NoCommand { line }),
     }
 }

@@ -1,6 +1,8 @@
 // Runs a day at the bench: calls of lots from standard input, each printed with its answer. docs/LOTS.md has the form.
+mod clashes;
 mod command;
 mod day;
+mod lot;
 
 use crate::day::run;
 use console::input::Unread;

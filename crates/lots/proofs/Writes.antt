@@ -34,7 +34,7 @@ overlaid-state {m} {n} ws a xs s t h =
     }
 
 -- past what is laid over, all stays
-laid-rest : (ws : List ℕ) (a : ℕ) (xs : List ℕ) (k : ℕ) → a + length xs ≤ k → a ≤ length ws → drop k (overlaid ws a xs) ≡ drop k ws
+pub laid-rest : (ws : List ℕ) (a : ℕ) (xs : List ℕ) (k : ℕ) → a + length xs ≤ k → a ≤ length ws → drop k (overlaid ws a xs) ≡ drop k ws
 laid-rest ws a xs k h la =
     let b : ℕ = a + length xs in
     let d : ℕ = k - b in
@@ -70,3 +70,10 @@ other-node w i j ws xs e h7 li ne =
     (λ l. laid-before ws (7 * i) xs (7 * j) w (omega arith) li)
     (λ l. ap (take w) (laid-rest ws (7 * i) xs (7 * j) (omega arith) li))
     (cases-lt j i)
+
+-- tables that are alike from some word on have their nodes from there on alike
+pub same-node : (w m j : ℕ) (xs ys : List ℕ) → drop m xs ≡ drop m ys → m ≤ 7 * j → node-in w xs j ≡ node-in w ys j
+same-node w m j xs ys e h =
+    let d : ℕ = 7 * j - m in
+    let ej : m + d ≡ 7 * j = omega arith in
+    ap (take w) (ap (λ (n : ℕ). drop n xs) (sym ej) ∙ sym (drop-drop d m xs) ∙ ap (drop d) e ∙ drop-drop d m ys ∙ ap (λ (n : ℕ). drop n ys) ej)

@@ -9,6 +9,14 @@ ghost use Rattle.lots.specs.Nodes.{node-in, under};
 use kinds::kind::Kind;
 use sponge::pair::compress;
 
+// How many places a tree of that depth has.
+pub(crate) fn places(depth: usize) -> usize
+    requires { ⌜ depth ≤ 8 ⌝ }
+    ensures { λ r. ⌜ r ≡ 2 ^ depth ⌝ }
+{
+    1 << depth
+}
+
 // Copies the digest of node i into the front of seven words.
 fn fetch<K: Kind>(words: &[u64], i: usize, out: &mut [u64; 7])
     requires table { ⌜ length (now words) ≡ 3584 ⌝ }

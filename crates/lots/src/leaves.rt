@@ -7,8 +7,12 @@ ghost use Rattle.std.specs.shelf.Lists.{Every};
 ghost use Rattle.kinds.specs.Kinds.{State};
 ghost use Rattle.model.specs.Trees.{tree-value};
 ghost use Rattle.model.specs.Lots.{leaf-at};
-ghost use Rattle.lots.specs.Nodes.{leaves-in};
+ghost use Rattle.model.specs.Closed.{all-nodes};
+ghost use Rattle.lots.specs.Nodes.{leaves-in, nodes-in};
+use crate::growing::grow;
+use crate::heap::places;
 use crate::heap::tree;
+use crate::nodes::Nodes;
 use kinds::kind::Kind;
 use sponge::pair::overlay;
 use std::alloc::AllocError;
@@ -22,14 +26,6 @@ pub struct Leaves {
     ghost shallow: { depth ≤ 8 },
     ghost long: { vec-len words ≡ 3584 },
     ghost below: { Every (λ x. x < 18446744069414584321) (vec-items words) 0 3584 },
-}
-
-// How many places a tree of that depth has.
-fn places(depth: usize) -> usize
-    requires { ⌜ depth ≤ 8 ⌝ }
-    ensures { λ r. ⌜ r ≡ 2 ^ depth ⌝ }
-{
-    1 << depth
 }
 
 // Makes each word 0.
@@ -105,5 +101,19 @@ impl Leaves {
         let mut value = [0u64; 7];
         tree(kind, &self.words, self.depth, 1, &mut value);
         out.copy_from_slice(&value[0..w]);
+    }
+
+    // Fills the nodes above the leaves.
+    pub(crate) fn close<K: Kind>(self, kind: &K) -> Nodes
+        ensures depth { λ r. ⌜ r .depth ≡ self .depth ⌝ }
+        ensures nodes { λ r. ⌜ nodes-in (K·Kind .w) (self .depth) (vec-items (r .words)) ≡ all-nodes (K·Kind .c) (K·Kind .w) (K·Kind .mapping) (self .depth) (leaf-at (K·Kind .w) (leaves-in (K·Kind .w) (self .depth) (vec-items (self .words)))) ⌝ }
+    {
+        let Leaves { depth, words } = self;
+        let mut nodes = words;
+        grow(kind, &mut nodes, places(depth));
+        Nodes {
+            depth,
+            words: nodes,
+        }
     }
 }

@@ -6,7 +6,9 @@ ghost use Rattle.std.specs.Vec.{made};
 ghost use Rattle.kinds.specs.Denials.{told};
 ghost use Rattle.model.specs.Calls.{making, begin as beginning, feed as feeding, feed-eight as feeding-eight, seal as sealing, abandon as abandoning, clear as clearing, root as rooting};
 ghost use Rattle.model.specs.Lots.{newly-made, step};
-ghost use Rattle.lots.specs.Seen.{seen};
+ghost use Rattle.model.specs.Closed.{closed};
+ghost use Rattle.lots.specs.Seen.{seen, seen-closed};
+use crate::closed::ClosedLot;
 use crate::leaves::Leaves;
 use kinds::denial::Denial;
 use kinds::kind::Kind;
@@ -122,6 +124,19 @@ impl<K: Kind> Lot<K> {
         }
         self.leaves.root(&self.kind, out);
         Ok(())
+    }
+
+    // Ends the filling: records in hand are abandoned, and all nodes are worked out, in the table that had the leaves.
+    pub fn close(self) -> ClosedLot<K>
+        ensures { λ r. ⌜ seen-closed (K·Kind .w) r ≡ closed (K·Kind .c) (K·Kind .w) (K·Kind .mapping) (seen (K·Kind .c) (K·Kind .w) self) ⌝ }
+    {
+        let Lot {
+            kind,
+            leaves,
+            stations: _,
+        } = self;
+        let nodes = leaves.close(&kind);
+        ClosedLot { kind, nodes }
     }
 }
 

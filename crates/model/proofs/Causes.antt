@@ -27,6 +27,10 @@ none-there (x ∷ xs) e =
     (λ b. (b, none-there xs (rw b at e)))
     (cases-bool (x .0))
 
+pub granted-by : (xs : List Cause) → None-there xs → answer xs ≡ granted
+granted-by [] none = refl
+granted-by (x ∷ xs) none = rw (none .0) (granted-by xs (none .1))
+
 pub one-of-eight : (s : ℕ) → no-station s .0 ≡ false → s < 8
 one-of-eight s e = let a = ltb-false 7 s e in omega arith
 

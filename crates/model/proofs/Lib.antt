@@ -4,3 +4,6 @@ pub mod Hands
 pub mod Stands
 pub mod Steps
 pub mod Runs
+pub mod Heaps
+pub mod Order
+pub mod Paths

@@ -1,6 +1,8 @@
 -- The tree over the places of a lot, for a kind with capacity size c, digest size w and mapping F.
-use mathlib.Core.List.{List}
-use Prim.Native.Nat.{ℕ, zero, suc, _+_, _*_}
+use mathlib.Core.Bool.{cond}
+use mathlib.Core.List.{List, [], _++_}
+use Prim.Native.Nat.{ℕ, zero, suc, _+_, _*_, _-_, _/_, _%_, _^_}
+use lib.Dec.{eqb}
 use lib.ListN.{length, replicate}
 use Rattle.std.specs.declared.option.Option.{Option}
 use Rattle.std.specs.declared.option.Option.the-variants.{Some, None}
@@ -9,6 +11,10 @@ use Rattle.sponge.specs.Digests.{start-of, record-digest, two-to-one}
 -- where capacity element 0 starts for a record of n elements in a lot
 abbrev pub lot-start : ℕ → ℕ → ℕ
 lot-start w n = start-of w n
+
+-- the other child of a node's parent
+abbrev pub sibling : ℕ → ℕ
+sibling k = cond (eqb (k % 2) 0) (k + 1) (k - 1)
 
 module _ (c w : ℕ) (F : List ℕ → List ℕ) where
   -- the leaf of a place: the digest of its last record, or w zeros for an empty place
@@ -24,3 +30,8 @@ module _ (c w : ℕ) (F : List ℕ → List ℕ) where
   -- the tree value: node 0 of level depth
   abbrev pub tree-value : ℕ → (ℕ → List ℕ) → List ℕ
   tree-value depth leaves = node leaves depth 0
+
+  -- the path of a place through levels 0 to n - 1: on each level, the sibling of the node above the place
+  abbrev pub path-of : ℕ → (ℕ → List ℕ) → ℕ → List ℕ
+  path-of zero leaves place = []
+  path-of (suc n) leaves place = path-of n leaves place ++ node leaves n (sibling (place / 2 ^ n))

@@ -51,11 +51,19 @@ pub half-back-state : (inverse k : List ℕ) (place e : ℕ) (s : List ℕ) → 
 unfolding half-back
 half-back-state inverse k place e s = times-state inverse (unkeyed k place (raised e s))
 
+-- states stay states
 pub forward-state : (row k : List ℕ) (n : ℕ) (s : List ℕ) → State (length row) s → State (length row) (forward row k n s)
 unfolding forward round
 forward-state row k zero s st = st
 forward-state row k (suc n) s st =
     half-state row k ((2 * n + 1) * length row) exponent-d (half row k (2 * n * length row) 7 (forward row k n s))
+
+pub backward-state : (inverse k : List ℕ) (n : ℕ) (s : List ℕ) → State (length inverse) s → State (length inverse) (backward inverse k n s)
+unfolding backward round-back
+backward-state inverse k zero s st = st
+backward-state inverse k (suc n) s st =
+    backward-state inverse k n (round-back inverse k n s)
+    (half-back-state inverse k (2 * n * length inverse) exponent-d (half-back inverse k ((2 * n + 1) * length inverse) 7 s))
 
 off-on : (t c : ℕ) → t < p → c < p → ((t + c) % p + (p - c)) % p ≡ t
 off-on t c ht hc = omega arith

@@ -2,32 +2,30 @@
 ghost use mathlib.Core.Path.{_≡_};
 ghost use Prim.Native.Nat.{_+_, _*_, _<_, _≤_};
 ghost use lib.ListN.{length, take};
-ghost use Rattle.field.specs.Field.{Elements, exponent-d};
+ghost use Rattle.field.specs.Field.{Elements};
 ghost use Rattle.rpo.specs.Matrix.{Doubled, Small};
+ghost use Rattle.rpo.specs.Powers.{exponent-of};
 ghost use Rattle.rpo.specs.Permutation.{unkeyed, half, half-back, round, round-back, permuted, reversed};
 use crate::matrix::mix;
 use crate::matrix::transform;
+use crate::powers::Power;
+use crate::powers::raise_each;
 use field::arithmetic::difference;
 use field::element::Element;
-use field::lanes::power_7_each;
-use field::lanes::power_d_each;
 
-fn half_7<const M: usize>(twice: &[u64], constants: &[u64], place: usize, s: &mut [u64; M])
+fn half<const M: usize>(
+    twice: &[u64],
+    constants: &[u64],
+    place: usize,
+    power: Power,
+    s: &mut [u64; M],
+)
     requires sizes { ⌜ length (now s) ≡ M ⌝ ∗ ⌜ place + M ≤ length (now constants) ⌝ }
     requires matrix { ⌜ Doubled M (now twice) ⌝ ∗ ⌜ Small (take M (now twice)) ⌝ }
-    ensures { λ _. ⌜ now (s .exit) ≡ half (take M (now (twice .entry))) (now (constants .entry)) place 7 (now (s .entry)) ⌝ }
+    ensures { λ _. ⌜ now (s .exit) ≡ half (take M (now (twice .entry))) (now (constants .entry)) place (exponent-of power) (now (s .entry)) ⌝ }
 {
     mix(twice, constants, place, s);
-    power_7_each(s);
-}
-
-fn half_d<const M: usize>(twice: &[u64], constants: &[u64], place: usize, s: &mut [u64; M])
-    requires sizes { ⌜ length (now s) ≡ M ⌝ ∗ ⌜ place + M ≤ length (now constants) ⌝ }
-    requires matrix { ⌜ Doubled M (now twice) ⌝ ∗ ⌜ Small (take M (now twice)) ⌝ }
-    ensures { λ _. ⌜ now (s .exit) ≡ half (take M (now (twice .entry))) (now (constants .entry)) place exponent-d (now (s .entry)) ⌝ }
-{
-    mix(twice, constants, place, s);
-    power_d_each(s);
+    raise_each(power, s);
 }
 
 fn round<const M: usize>(twice: &[u64], constants: &[u64], r: usize, s: &mut [u64; M])
@@ -35,8 +33,8 @@ fn round<const M: usize>(twice: &[u64], constants: &[u64], r: usize, s: &mut [u6
     requires matrix { ⌜ Doubled M (now twice) ⌝ ∗ ⌜ Small (take M (now twice)) ⌝ }
     ensures { λ _. ⌜ now (s .exit) ≡ round (take M (now (twice .entry))) (now (constants .entry)) r (now (s .entry)) ⌝ }
 {
-    half_7(twice, constants, 2 * r * M, s);
-    half_d(twice, constants, (2 * r + 1) * M, s);
+    half(twice, constants, 2 * r * M, Power::Seven, s);
+    half(twice, constants, (2 * r + 1) * M, Power::D, s);
 }
 
 // The permutation, by a small matrix.
@@ -63,24 +61,19 @@ fn unkey<const M: usize>(constants: &[u64], place: usize, s: &mut [u64; M])
     }
 }
 
-fn half_back_7<const M: usize>(twice: &[u64], constants: &[u64], place: usize, s: &mut [u64; M])
+fn half_back<const M: usize>(
+    twice: &[u64],
+    constants: &[u64],
+    place: usize,
+    power: Power,
+    s: &mut [u64; M],
+)
     requires sizes { ⌜ length (now s) ≡ M ⌝ ∗ ⌜ M ≤ 16 ⌝ ∗ ⌜ place + M ≤ length (now constants) ⌝ }
     requires matrix { ⌜ Doubled M (now twice) ⌝ }
     requires elements { ⌜ Elements (now constants) ⌝ }
-    ensures { λ _. ⌜ now (s .exit) ≡ half-back (take M (now (twice .entry))) (now (constants .entry)) place 7 (now (s .entry)) ⌝ }
+    ensures { λ _. ⌜ now (s .exit) ≡ half-back (take M (now (twice .entry))) (now (constants .entry)) place (exponent-of power) (now (s .entry)) ⌝ }
 {
-    power_7_each(s);
-    unkey(constants, place, s);
-    transform(twice, s);
-}
-
-fn half_back_d<const M: usize>(twice: &[u64], constants: &[u64], place: usize, s: &mut [u64; M])
-    requires sizes { ⌜ length (now s) ≡ M ⌝ ∗ ⌜ M ≤ 16 ⌝ ∗ ⌜ place + M ≤ length (now constants) ⌝ }
-    requires matrix { ⌜ Doubled M (now twice) ⌝ }
-    requires elements { ⌜ Elements (now constants) ⌝ }
-    ensures { λ _. ⌜ now (s .exit) ≡ half-back (take M (now (twice .entry))) (now (constants .entry)) place exponent-d (now (s .entry)) ⌝ }
-{
-    power_d_each(s);
+    raise_each(power, s);
     unkey(constants, place, s);
     transform(twice, s);
 }
@@ -91,8 +84,8 @@ fn round_back<const M: usize>(twice: &[u64], constants: &[u64], r: usize, s: &mu
     requires elements { ⌜ Elements (now constants) ⌝ }
     ensures { λ _. ⌜ now (s .exit) ≡ round-back (take M (now (twice .entry))) (now (constants .entry)) r (now (s .entry)) ⌝ }
 {
-    half_back_7(twice, constants, (2 * r + 1) * M, s);
-    half_back_d(twice, constants, 2 * r * M, s);
+    half_back(twice, constants, (2 * r + 1) * M, Power::Seven, s);
+    half_back(twice, constants, 2 * r * M, Power::D, s);
 }
 
 // The reverse, by the inverse matrix.

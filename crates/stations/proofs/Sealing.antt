@@ -7,7 +7,7 @@ use Prim.Native.Nat.{ℕ, _+_, _*_, _-_, _≤_, _<_}
 use native.Mathlib.Nat.{mod-lt}
 use native.Mathlib.Omega.{arith}
 use lib.Dec.{ltb}
-use lib.ListN.{length, getD, take}
+use lib.ListN.{length, take}
 use Rattle.std.proofs.shelf.Tests.{le-ltb, cases-lt}
 use Rattle.std.proofs.shelf.Lists.{length-take, getD-take, getD-past}
 use Rattle.std.specs.shelf.Lists.{Every}

@@ -16,4 +16,9 @@ returns c =
       digest-of-one = refl;
       digest-of-a-block = refl;
       digest-of-a-block-and-one = refl;
+      accepted-at-its-place = refl;
+      not-at-another = refl;
+      pairs-clash = refl;
+      records-clash = refl;
+      zero-clash = refl;
     }

@@ -6,18 +6,18 @@ use Rattle.rpo.proofs.Steps.{first-half, second-half, round-is}
 use Rattle.rpo.proofs.Totals.{first-long}
 use Rattle.rpo.proofs.permutation.round.Needs as need
 
-pub half-7-requires : need.half-7-requires
-half-7-requires g c κs = let w = first-half (c .args .r) (g .M) (c .pre .sizes .1 .1) in search needs
+pub half-requires : need.half-requires
+half-requires g c κs = let w = first-half (c .args .r) (g .M) (c .pre .sizes .1 .1) in search needs
 
-pub half-d-requires : need.half-d-requires
-half-d-requires g c κs =
+pub half-requires-2 : need.half-requires-2
+half-requires-2 g c κs =
     let w = second-half (c .args .r) (g .M) (c .pre .sizes .1 .1) in
-    let long : length (c .half-7 .last .s) ≡ g .M =
-    ap length (c .half-7 .ensures) ∙ half-state (take (g .M) (c .args .twice .now)) (c .args .constants .now) _ _ _ .long
+    let long : length (c .half .last .s) ≡ g .M =
+    ap length (c .half .ensures) ∙ half-state (take (g .M) (c .args .twice .now)) (c .args .constants .now) _ _ _ .long
     ∙ first-long (g .M) (c .args .twice .now) (c .pre .matrix .0) in
     search needs
 
 pub returns : need.returns
 returns g c =
-    round-is (g .M) (take (g .M) (c .args .twice .now)) (c .args .constants .now) (c .args .r) (c .args .s .now) (c .half-7 .last .s) (c .half-d .last .s)
-    (first-long (g .M) (c .args .twice .now) (c .pre .matrix .0)) (c .half-7 .ensures) (c .half-d .ensures)
+    round-is (g .M) (take (g .M) (c .args .twice .now)) (c .args .constants .now) (c .args .r) (c .args .s .now) (c .half .last .s) (c .half-2 .last .s)
+    (first-long (g .M) (c .args .twice .now) (c .pre .matrix .0)) (c .half .ensures) (c .half-2 .ensures)

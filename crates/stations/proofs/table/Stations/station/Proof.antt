@@ -11,22 +11,21 @@ use mir.Syntax.{Fn, w64, named, aType, tyArray}
 use mir.MapTy.{instFn}
 use mir.Val.{Val, vint, vptr}
 use base.Logic.{SProp, ent, sep, via, assoc′}
-use base.Fml.{Lft, GName, Share, Fml, ftrue, flft, fobs, fauth, fobor, fsep, feq}
+use base.Fml.{Lft, GName, Share, Fml, ftrue, flft, fsep, feq}
 use prog.Memory.{size, align, up}
 use prog.Align.{up-ge}
-use prog.Wp.{Heap, Env, Calls, Loops, WpFn, Tables}
+use prog.Wp.{Heap, Calls, Loops, WpFn, Tables}
 use ghost.Atoms.{Atoms, sem}
 use contract.Running.{givenOf, tables, tablesOf}
 use contract.Monad.{fact}
 use sound.WpLaws.{WpFn-mono}
-use types.Kit.{Given, Item, mean, ‵, raw, _⊛_, some, later, await, group, atRet, _$_, _∵_, !, qed, by, move, keep, use1, use2, drop, split, join, pick, rewrite, fsplit, fsplit3, fjoin, feqL, feqI, suffices, frame, done}
-use types.SemTy.{Body}
+use types.Kit.{Given, Item, mean, ‵, raw, _⊛_, some, later, await, group, _$_, _∵_, !, qed, by, move, keep, use1, use2, drop, split, join, pick, rewrite, fsplit, fsplit3, fjoin, feqL, feqI, suffices, frame, done}
 use types.Mut.{open-ref}
-use types.Run.{size-lit, stop, fld, addr, of-opd, bin, returns, enter}
+use types.Run.{size-lit, stop, fld, addr, bin, returns, enter}
 use types.ByLocal.{alloc-all, pass-all, free-all, look-at, get, through, sets, env}
 use denote.Exit.{yes, no}
 use denote.RattleType.{RattleType, owns}
-use denote.Memory.{partAt, partOf, mem, shares}
+use denote.Memory.{partAt, mem, shares}
 use denote.Array.{Array}
 use denote.ArrayMemory.{array-apart, array-whole}
 use denote.Index.{place, place-is, others, takes, puts, row}

@@ -1,0 +1,4 @@
+pub mod Levels
+pub mod Finds
+pub mod Admitted
+pub mod Shows

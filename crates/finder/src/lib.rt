@@ -1,0 +1,4 @@
+pub mod clash;
+pub mod finding;
+pub mod laws;
+mod showing;

@@ -1,0 +1,4 @@
+pub mod Digests
+pub mod Steps
+pub mod Tests
+pub mod Admitted

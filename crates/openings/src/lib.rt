@@ -1,0 +1,4 @@
+pub mod checking;
+pub mod climbing;
+pub mod opening;
+pub mod words;
