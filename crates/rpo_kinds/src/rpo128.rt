@@ -15,7 +15,10 @@ pub struct Rpo128 {
 }
 
 impl Rpo128 {
-    pub fn new() -> Rpo128 {
+    // The kind, its constants derived.
+    pub fn new() -> Rpo128
+        ensures { λ r. ⌜ r .constants .words ≡ constants-named text-128 168 ⌝ }
+    {
         let mut stream = [0u8; 1512];
         let constants = RoundConstants::named(b"RPO(18446744069414584321,12,4,128)", &mut stream);
         Rpo128 { constants }

@@ -15,7 +15,10 @@ pub struct Rpo160 {
 }
 
 impl Rpo160 {
-    pub fn new() -> Rpo160 {
+    // The kind, its constants derived.
+    pub fn new() -> Rpo160
+        ensures { λ r. ⌜ r .constants .words ≡ constants-named text-160 224 ⌝ }
+    {
         let mut stream = [0u8; 2016];
         let constants = RoundConstants::named(b"RPO(18446744069414584321,16,6,160)", &mut stream);
         Rpo160 { constants }
