@@ -1,16 +1,15 @@
 -- Texts written over bytes one after another.
-use mathlib.Core.Path.{_≡_, refl, sym, ap, _∙_}
+use mathlib.Core.Path.{_≡_, sym, ap, _∙_}
 use mathlib.Core.List.{List, [], _∷_, _++_, map}
-use Prim.Native.Nat.{ℕ, suc, _+_, _-_, _/_, _%_, _^_, _<_, _≤_}
+use Prim.Native.Nat.{ℕ, _+_, _-_, _/_, _%_, _^_, _<_, _≤_}
 use native.Mathlib.Omega.{arith}
 use native.Mathlib.Numerals.{add-one}
 use native.Mathlib.Nat.{zero-add, add-zero}
-use lib.Chars.{codes}
 use Rattle.std.specs.shelf.Lists.{joined}
 use borrow.Rule.Slice.PartMut.{putMid}
 use borrow.Author.Needs.{needs}
-use lib.ListN.{length, take, drop, set, getD, length-append, length-drop, length-take}
-use Rattle.std.proofs.shelf.Lists.{take-at, drop-at, drop-drop, length-take-le, set-split, length-push, take-append-drop, joined-more, map-more, places, same-lists}
+use lib.ListN.{length, take, set, getD, length-append}
+use Rattle.std.proofs.shelf.Lists.{drop-drop, set-split, length-push, take-append-drop, joined-more, map-more, places, same-lists}
 use Rattle.std.proofs.shelf.Decimals.{decimal-digit, decimal-step, length-decimal-le}
 use Rattle.std.specs.Written.{decimal}
 use Rattle.lines.specs.Lines.{put, over, spaced}

@@ -2,7 +2,6 @@ ghost use mathlib.Core.Path.{_≡_};
 ghost use Prim.Native.Nat.{_+_, _*_, _≤_};
 ghost use lib.ListN.{length};
 ghost use Rattle.lines.specs.Lines.{over, numbers-line, ok-line, root-line, path-line, no-line};
-use crate::parts::put_number;
 use crate::parts::put_spaced_layer;
 use crate::parts::put_spaced_number;
 use crate::parts::put_text;

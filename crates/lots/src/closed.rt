@@ -1,4 +1,5 @@
 ghost use mathlib.Core.Path.{_≡_};
+ghost use Prim.Native.Nat.{_≤_};
 ghost use Rattle.kinds.specs.Denials.{told};
 ghost use Rattle.model.specs.Closed.{closed-root-call, open-call};
 ghost use Rattle.lots.specs.Seen.{seen-closed};
@@ -14,6 +15,14 @@ pub struct ClosedLot<K: Kind> {
 }
 
 impl<K: Kind> ClosedLot<K> {
+    // The depth, by which a caller knows how long a path is.
+    pub fn depth(&self) -> usize
+        ensures exact { λ r. ⌜ r ≡ seen-closed (K·Kind .w) (now (self .entry)) .depth ⌝ }
+        ensures shallow { λ r. ⌜ r ≤ 8 ⌝ }
+    {
+        self.nodes.depth
+    }
+
     // Writes the tree value.
     pub fn root(&self, out: &mut [u64]) -> Result<(), Denial>
         ensures { λ r. ⌜ (told r, now (out .exit)) ≡ closed-root-call (K·Kind .w) (seen-closed (K·Kind .w) (now (self .entry))) (now (out .entry)) ⌝ }

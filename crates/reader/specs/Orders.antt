@@ -1,7 +1,6 @@
 -- The operands of a command as numbers.
 use mathlib.Core.List.{List}
 use Prim.Native.Nat.{ℕ}
-use lib.ListN.{getD}
 use Rattle.reader.specs.declared.verbs.Verb.{Verb}
 use Rattle.reader.specs.declared.verbs.Verb.the-variants as verb
 use Rattle.reader.specs.declared.orders.Order.{Order}

@@ -1,10 +1,9 @@
 use mathlib.Core.Path.{ap, _∙_}
 use native.Mathlib.Omega.{arith}
 use lib.Chars.{codes}
-use lib.ListN.{length-append}
 use Rattle.std.specs.Written.{decimal}
 use Rattle.lines.specs.Lines.{put}
-use Rattle.lines.proofs.Puts.{wrote-none, wrote-more, put-put}
+use Rattle.lines.proofs.Puts.{put-put}
 use Rattle.lines.proofs.parts.put_spaced_number.Needs as need
 
 pub returns : need.returns

@@ -2,7 +2,7 @@ use mathlib.Core.List.{[], _∷_}
 use native.Mathlib.Omega.{arith}
 use lib.Chars.{codes}
 use Rattle.std.specs.Written.{decimal}
-use Rattle.lines.specs.Lines.{line, spaced, layer-word}
+use Rattle.lines.specs.Lines.{line, layer-word}
 use Rattle.lines.proofs.Puts.{wrote-none, wrote-more, wrote-part, wrote-line}
 use Rattle.lines.proofs.writing.write_no.Needs as need
 
