@@ -1,5 +1,5 @@
 // The permutation Keccak-f[1600] of FIPS 202 on 25 lanes of 64 bits: lane (x, y) stands at x + 5 y.
-// The steps are written out lane by lane, since that runs about ten times faster than loops over the lanes.
+// The steps are written out lane by lane, so that the compiler keeps lanes in registers.
 ghost use mathlib.Core.Path.{_≡_};
 ghost use Prim.Native.Nat.{_<_};
 ghost use lib.ListN.{getD};
