@@ -1,4 +1,6 @@
 // Runs a day at the bench: calls of lots from standard input, each printed with its answer. docs/LOTS.md has the form.
+#![tactic(auto)]
+
 mod clashes;
 mod command;
 mod day;

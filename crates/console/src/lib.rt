@@ -1,3 +1,5 @@
 // What the programs share: reading standard input, and writing words and refusals.
+#![tactic(auto)]
+
 pub mod input;
 pub mod output;

@@ -1,4 +1,6 @@
 // Digests one record that comes on standard input, and says what it does. docs/DIGEST.md has the form of the input.
+#![tactic(auto)]
+
 mod input;
 mod report;
 

@@ -1,4 +1,6 @@
 // Tests of the edges of what is granted, over every kind.
+#![tactic(auto)]
+
 #[cfg(test)]
 mod tests {
     use field::element::P;

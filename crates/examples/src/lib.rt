@@ -1,4 +1,6 @@
 // Holds the worked examples.
+#![tactic(auto)]
+
 ghost use Rattle.examples.specs.Table.{WorkedExamples};
 
 pub fn examples_stand() -> u8

@@ -1,5 +1,7 @@
 // What C and Rust can call. A call that can be refused answers with 0 where it is granted, else with the number of its
 // refusal.
+#![tactic(auto)]
+
 mod code;
 pub mod field_calls;
 pub mod hash_calls;

@@ -1,3 +1,5 @@
+#![tactic(auto)]
+
 pub mod arithmetic;
 pub mod element;
 pub mod lanes;

@@ -1,3 +1,5 @@
+#![tactic(auto)]
+
 pub mod clash;
 pub mod finding;
 pub mod laws;

@@ -1,5 +1,7 @@
 // The permutation Keccak-f[1600] of FIPS 202 on 25 lanes of 64 bits: lane (x, y) stands at x + 5 y.
 // The steps are written out lane by lane, so that the compiler keeps lanes in registers.
+#![tactic(auto)]
+
 ghost use Rattle.std.specs.Prelude.{◌≡◌, ◌<◌, slice_index};
 ghost use Rattle.keccak.specs.Keccak.{rotated, rotations, effects, theta, rho, pi, chi, iota, round, keccak_f};
 

@@ -1,3 +1,5 @@
+#![tactic(auto)]
+
 pub mod denial;
 pub mod drill;
 pub mod kind;

@@ -1,5 +1,7 @@
 // The laws of a lot over whole runs. There is no code here but the holders of the laws: the calls that keep to them
 // are in the crates above.
+#![tactic(auto)]
+
 ghost use Rattle.model.specs.Laws.{LotLaws, ClosedLaws};
 ghost use Rattle.model.specs.Promises.{Order};
 

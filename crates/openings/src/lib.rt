@@ -1,3 +1,5 @@
+#![tactic(auto)]
+
 pub mod checking;
 pub mod climbing;
 pub mod opening;

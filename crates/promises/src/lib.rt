@@ -1,4 +1,6 @@
 // The promises of the product. There is no code here but their holder: the calls that keep to them are in the crates below.
+#![tactic(auto)]
+
 ghost use Rattle.promises.specs.Promises.{Promises};
 
 use kinds::kind::Kind;

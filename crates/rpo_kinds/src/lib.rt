@@ -1,3 +1,5 @@
+#![tactic(auto)]
+
 pub mod constants;
 pub mod laws;
 pub mod reversing;

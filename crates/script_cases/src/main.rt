@@ -1,5 +1,7 @@
 // Runs the scripts of standard input, one to a line, and prints the lines of each and then `end`. Its stored output comes from
 // an independent model; reference/make_scripts.py makes both files and has the form of a line.
+#![tactic(auto)]
+
 mod parts;
 
 use crate::parts::read_script;

@@ -1,4 +1,6 @@
 // Runs the script on standard input, and prints a line for each of its commands.
+#![tactic(auto)]
+
 use script::runner::Runner;
 use std::io;
 use std::io::{Read, Write};

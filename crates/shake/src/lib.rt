@@ -1,4 +1,6 @@
 // SHAKE256 of FIPS 202: a text of any length into a buffer of any length.
+#![tactic(auto)]
+
 ghost use Rattle.std.specs.Prelude.{◌≡◌, ◌+◌, ◌*◌, ◌/◌, ◌<◌, ◌≤◌, length};
 ghost use Rattle.shake.specs.Shake.{padded_at, padded_lane, mixed, absorbed, state_byte, output, shake256_bytes};
 

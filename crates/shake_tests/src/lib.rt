@@ -1,5 +1,6 @@
 // Answers of SHAKE256 that another implementation, Python's hashlib, gives too.
 // They test the definition that the code is proved against, which no proof can do.
+#![tactic(auto)]
 
 #[cfg(test)]
 mod tests {

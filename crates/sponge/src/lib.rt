@@ -1,3 +1,5 @@
+#![tactic(auto)]
+
 pub mod digest;
 pub mod laws;
 pub mod pair;

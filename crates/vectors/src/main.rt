@@ -1,5 +1,7 @@
 // Runs the cases of standard input, one to a line, and writes an answer to each. Its stored output comes from an
 // independent model, reference/rpo_reference.py; reference/make_vectors.py makes both files and has the form of a line.
+#![tactic(auto)]
+
 mod calls;
 mod cases;
 mod opened;

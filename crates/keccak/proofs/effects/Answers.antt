@@ -6,9 +6,9 @@ pub returns : goal.returns
 unfolding parity effect effects
 returns c =
     simp (
-      c.rotate-left.ensures,
-      c.rotate-left-2.ensures,
-      c.rotate-left-3.ensures,
-      c.rotate-left-4.ensures,
-      c.rotate-left-5.ensures,
+      c.rotate_left.ensures,
+      c.rotate_left-2.ensures,
+      c.rotate_left-3.ensures,
+      c.rotate_left-4.ensures,
+      c.rotate_left-5.ensures,
     )

@@ -5,16 +5,16 @@ use Rattle.finder.specs.Findings.{shown}
 use Rattle.finder.proofs.Admitted.{call_denied, call_judged}
 use Rattle.finder.proofs.finding.find_clash.Goals as goal
 
-pub returns-in-err-admit : goal.returns-in-err-admit
-returns-in-err-admit g c =
+pub returns-in_err-admit : goal.returns-in_err-admit
+returns-in_err-admit g c =
     let k = g.K.Kind in
     let p = err_from_is_err_and c.from-residual.result c.from-residual.ensures.1 in
     rw (p.1, p.2)
     (call_denied k.c k.w k.mapping c.args.root.now c.args.depth c.args.place (option_map (λ x. x.now) c.args.first.claim) c.args.first.path.now (option_map (λ x. x.now) c.args.second.claim) c.args.second.path.now c.args.out.now
-    c.digest-len.result c.digest-len.ensures (number_of c.in-err-admit.field-0.0) (values_of c.in-err-admit.field-0.0) c.in-err-admit.ensures)
+    c.digest_len.result c.digest_len.ensures (number_of c.in_err-admit.field-0.0) (values_of c.in_err-admit.field-0.0) c.in_err-admit.ensures)
 
 pub returns : goal.returns
 returns g c =
     let k = g.K.Kind in
     call_judged k.c k.w k.mapping c.args.root.now c.args.depth c.args.place (option_map (λ x. x.now) c.args.first.claim) c.args.first.path.now (option_map (λ x. x.now) c.args.second.claim) c.args.second.path.now c.args.out.now
-    c.digest-len.result c.digest-len.ensures (told c.find-admitted.result, shown c.find-admitted.result, c.find-admitted.new.out) c.in-ok-admit.ensures c.find-admitted.ensures
+    c.digest_len.result c.digest_len.ensures (told c.find_admitted.result, shown c.find_admitted.result, c.find_admitted.new.out) c.in_ok-admit.ensures c.find_admitted.ensures

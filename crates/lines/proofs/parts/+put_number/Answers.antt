@@ -13,5 +13,5 @@ bounds-out-place t c = let p = front_shorter c.args.n (omega arith) (omega arith
 pub returns : goal.returns
 returns t c =
     let q = front_shorter c.args.n (omega arith) (omega arith) in
-    let p = put_last c.args.out.now c.put-number-place.new.out c.args.n c.args.at c.put-number-place.result (omega arith) (omega arith) (omega arith) c.put-number-place.ensures.written c.put-number-place.ensures.after in
+    let p = put_last c.args.out.now c.put_number-place.new.out c.args.n c.args.at c.put_number-place.result (omega arith) (omega arith) (omega arith) c.put_number-place.ensures.written c.put_number-place.ensures.after in
     record { written = p.0; after = p.1; short = omega arith }

@@ -4,14 +4,14 @@ use Rattle.openings.specs.Opening.{own_at, pairs_below}
 use Rattle.openings.proofs.Steps.{within, times_more, own_more, own_now, part_now, pairs_more, room_now}
 use Rattle.openings.proofs.climbing.climb.Goals as goal
 
-pub slice-bounds-step-end : goal.slice-bounds-step-end
-slice-bounds-step-end g c =
+pub slice_bounds-step-end : goal.slice_bounds-step-end
+slice_bounds-step-end g c =
     let k = g.K.Kind in
     let h : c.loop-level.at + k.w ≤ length c.args.path.now = within k.w c.args.depth c.loop-level.level c.loop-level.at _ c.loop-level.invariant.0 c.requires.long c.loop-level-test.true in
     omega arith
 
-pub slice-bounds-step-end-in-loop-level : goal.slice-bounds-step-end-in-loop-level
-slice-bounds-step-end-in-loop-level g c =
+pub slice_bounds-step-end-in-loop-level : goal.slice_bounds-step-end-in-loop-level
+slice_bounds-step-end-in-loop-level g c =
     let k = g.K.Kind in
     let h : c.loop-level.to + 2 * k.w ≤ length c.loop-level.pairs = within (2 * k.w) c.args.depth c.loop-level.level c.loop-level.to _ c.loop-level.invariant.1 (c.loop-level.auto.pairs ∙ c.requires.pairs_long) c.loop-level-test.true in
     omega arith
@@ -21,13 +21,13 @@ step-requires g c =
     let k = g.K.Kind in
     let s = g.met.K.Kind.sound in
     let l = c.loop-level in
-    let w = c.digest-len-w.result in
+    let w = c.digest_len-w.result in
     let h = c.loop-level-test.true in
     let room = within (2 * k.w) c.args.depth l.level l.to _ l.invariant.1 (l.auto.pairs ∙ c.requires.pairs_long) h in
     record {
       own = own_now s c.args.place c.args.depth c.args.own.now c.args.path.now _ c.requires l.own l.level l.invariant.2 (omega arith);
-      sibling = part_now s c.args.place c.args.depth c.args.own.now c.args.path.now _ c.requires l.level l.at w l.invariant.0 c.digest-len-w.ensures h;
-      room = room_now l.pairs l.to w k.w c.digest-len-w.ensures room;
+      sibling = part_now s c.args.place c.args.depth c.args.own.now c.args.path.now _ c.requires l.level l.at w l.invariant.0 c.digest_len-w.ensures h;
+      room = room_now l.pairs l.to w k.w c.digest_len-w.ensures room;
     }
 
 pub loop-level-preserved : goal.loop-level-preserved
@@ -35,14 +35,14 @@ loop-level-preserved g c =
     let k = g.K.Kind in
     let s = g.met.K.Kind.sound in
     let l = c.loop-level in
-    let w = c.digest-len-w.result in
+    let w = c.digest_len-w.result in
     let h = c.loop-level-test.true in
-    let e : w ≡ k.w = c.digest-len-w.ensures in (
+    let e : w ≡ k.w = c.digest_len-w.ensures in (
       rw e (times_more k.w l.level l.at l.invariant.0),
       rw e (times_more (2 * k.w) l.level l.to l.invariant.1),
-      own_more k.c k.w k.mapping c.args.place c.args.own.now c.args.path.now l.own c.step.new.own l.level l.at w _ l.invariant.0 e c.is-on-right.ensures l.invariant.2 c.step.ensures.own,
+      own_more k.c k.w k.mapping c.args.place c.args.own.now c.args.path.now l.own c.step.new.own l.level l.at w _ l.invariant.0 e c.is_on_right.ensures l.invariant.2 c.step.ensures.own,
       pairs_more s c.args.place c.args.depth c.args.own.now c.args.path.now _ c.requires l.own l.pairs c.step.new.pair l.level l.at l.to w _ _ l.invariant.0 l.invariant.1 e
-          (l.auto.pairs ∙ c.requires.pairs_long) h c.is-on-right.ensures l.invariant.2 l.invariant.3 c.step.ensures.pair,
+          (l.auto.pairs ∙ c.requires.pairs_long) h c.is_on_right.ensures l.invariant.2 l.invariant.3 c.step.ensures.pair,
     )
 
 pub returns : goal.returns

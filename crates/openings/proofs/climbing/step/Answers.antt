@@ -5,11 +5,11 @@ use Rattle.openings.proofs.Digests.{paired_digests, flat_state}
 use Rattle.openings.proofs.Steps.{hash_flat}
 use Rattle.openings.proofs.climbing.step.Goals as goal
 
-pub hash-pair-requires : goal.hash-pair-requires
-hash-pair-requires g c =
+pub hash_pair-requires : goal.hash_pair-requires
+hash_pair-requires g c =
     let w = g.K.Kind.w in
     record {
-      pair = rw c.lay-pair.ensures (flat_state w _ (paired_digests w c.args.right c.args.own.now c.args.sibling.now c.requires.own c.requires.sibling));
+      pair = rw c.lay_pair.ensures (flat_state w _ (paired_digests w c.args.right c.args.own.now c.args.sibling.now c.requires.own c.requires.sibling));
       long = c.requires.own.long;
     }
 
@@ -18,8 +18,8 @@ returns g c =
     let k = g.K.Kind in
     let d = paired_digests k.w c.args.right c.args.own.now c.args.sibling.now c.requires.own c.requires.sibling in
     record {
-      own = c.hash-pair.ensures
-          ∙ ap (λ (p : List ℕ). two_to_one k.c k.w k.mapping (take k.w p) (drop k.w p)) c.lay-pair.ensures
+      own = c.hash_pair.ensures
+          ∙ ap (λ (p : List ℕ). two_to_one k.c k.w k.mapping (take k.w p) (drop k.w p)) c.lay_pair.ensures
           ∙ hash_flat k.c k.w k.mapping (paired c.args.right c.args.own.now c.args.sibling.now) d;
-      pair = c.lay-pair.ensures;
+      pair = c.lay_pair.ensures;
     }

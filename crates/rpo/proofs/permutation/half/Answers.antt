@@ -9,6 +9,6 @@ use Rattle.rpo.proofs.permutation.half.Goals as goal
 pub returns : goal.returns
 unfolding raised
 returns g c =
-    let is : c.raise-each.new.s ≡ map (λ x. power_of x (exponent_of c.args.power)) c.mix.new.s = c.raise-each.ensures in
-    half_is g.row.M (take g.row.M c.args.twice.now) c.args.constants.now c.args.place (exponent_of c.args.power) c.args.s.now c.mix.new.s c.raise-each.new.s
+    let is : c.raise_each.new.s ≡ map (λ x. power_of x (exponent_of c.args.power)) c.mix.new.s = c.raise_each.ensures in
+    half_is g.row.M (take g.row.M c.args.twice.now) c.args.constants.now c.args.place (exponent_of c.args.power) c.args.s.now c.mix.new.s c.raise_each.new.s
     (first_long g.row.M c.args.twice.now c.requires.matrix.0) c.mix.ensures (is)

@@ -16,11 +16,11 @@ mix-requires g c =
     let a = c.args.a.now in
     let b = c.args.b.now in
     let k = g.K.Kind in
-    let full = laid_out k.c k.w a b _ _ c.overlay-2.new.all _ _ c.requires.a c.requires.b c.requires.zeros c.capacity-len-c.ensures c.digest-len-w.ensures c.overlay.ensures c.overlay-2.ensures in
+    let full = laid_out k.c k.w a b _ _ c.overlay-2.new.all _ _ c.requires.a c.requires.b c.requires.zeros c.capacity_len-c.ensures c.digest_len-w.ensures c.overlay.ensures c.overlay-2.ensures in
     rw full (joined_state k.c k.w a b c.requires.a c.requires.b)
 
-pub slice-bounds-copy-from-slice-end : goal.slice-bounds-copy-from-slice-end
-slice-bounds-copy-from-slice-end g c =
+pub slice_bounds-copy_from_slice-end : goal.slice_bounds-copy_from_slice-end
+slice_bounds-copy_from_slice-end g c =
     let n : length c.args.state.now ≡ g.K.Kind.c + 2 * g.K.Kind.w = ap length c.requires.zeros ∙ length-replicate _ _ in omega arith
 
 pub returns : goal.returns
@@ -28,7 +28,7 @@ returns g c =
     let a = c.args.a.now in
     let b = c.args.b.now in
     let k = g.K.Kind in
-    let full = laid_out k.c k.w a b _ _ c.overlay-2.new.all _ _ c.requires.a c.requires.b c.requires.zeros c.capacity-len-c.ensures c.digest-len-w.ensures c.overlay.ensures c.overlay-2.ensures in
+    let full = laid_out k.c k.w a b _ _ c.overlay-2.new.all _ _ c.requires.a c.requires.b c.requires.zeros c.capacity_len-c.ensures c.digest_len-w.ensures c.overlay.ensures c.overlay-2.ensures in
     let mixed : c.mix.new.state ≡ k.mapping c.overlay-2.new.all = c.mix.ensures in
-    let n : c.capacity-len-c.result + c.digest-len-w.result - c.capacity-len-c.result ≡ k.w = omega arith in
-    rw (c.copy-from-slice.ensures.after, mixed, full, n, c.capacity-len-c.ensures)
+    let n : c.capacity_len-c.result + c.digest_len-w.result - c.capacity_len-c.result ≡ k.w = omega arith in
+    rw (c.copy_from_slice.ensures.after, mixed, full, n, c.capacity_len-c.ensures)

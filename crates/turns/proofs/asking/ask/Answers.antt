@@ -4,12 +4,12 @@ use Rattle.turns.proofs.asking.ask.Goals as goal
 
 pub returns-in-Root : goal.returns-in-Root
 unfolding asked
-returns-in-Root g c = rw c.in-Root.is c.root-line.ensures
+returns-in-Root g c = rw c.in-Root.is c.root_line.ensures
 
 pub returns-in-Open : goal.returns-in-Open
 unfolding asked
 returns-in-Open g c = rw c.in-Open.is c.path_line.ensures
 
-pub returns-in-default : goal.returns-in-default
+pub returns-in_default : goal.returns-in_default
 unfolding asked
-returns-in-default g c = search rules
+returns-in_default g c = search rules

@@ -4,4 +4,4 @@ use Rattle.turns.proofs.asking.path_into.Goals as goal
 
 pub returns : goal.returns
 unfolding open_told
-returns g c = lined_path _ _ _ _ _ _ _ c.open-answer.ensures c.write-path-answer.ensures
+returns g c = lined_path _ _ _ _ _ _ _ c.open-answer.ensures c.write_path_answer.ensures

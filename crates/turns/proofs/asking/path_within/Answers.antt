@@ -2,20 +2,20 @@ use Rattle.std.proofs.Common.{◌≡◌, ◌*◌, ◌≤◌, arith}
 use Rattle.turns.proofs.Lining.{front_zeros, front_short, path_short, zeros_long}
 use Rattle.turns.proofs.asking.path_within.Goals as goal
 
-pub slice-bounds-path-into-end : goal.slice-bounds-path-into-end
-slice-bounds-path-into-end g c =
-    let n = path_short c.depth-depth.result c.digest-len-w.result c.depth-depth.ensures.shallow (omega arith) in
+pub slice_bounds-path_into-end : goal.slice_bounds-path_into-end
+slice_bounds-path_into-end g c =
+    let n = path_short c.depth-depth.result c.digest_len-w.result c.depth-depth.ensures.shallow (omega arith) in
     let long = zeros_long c.args.zeros.now c.requires.zeros in
     omega arith
 
-pub path-into-requires : goal.path-into-requires
-path-into-requires g c lfts =
-    let n = path_short c.depth-depth.result c.digest-len-w.result c.depth-depth.ensures.shallow (omega arith) in
+pub path_into-requires : goal.path_into-requires
+path_into-requires g c lfts =
+    let n = path_short c.depth-depth.result c.digest_len-w.result c.depth-depth.ensures.shallow (omega arith) in
     (c.requires.room, front_short c.args.zeros.now _ (zeros_long c.args.zeros.now c.requires.zeros) n)
 
 pub returns : goal.returns
 returns g c =
     let depth = c.args.lot.now.nodes.depth in
-    let n : c.depth-depth.result * c.digest-len-w.result ≡ depth * g.K.Kind.w = rw (c.depth-depth.ensures.exact, c.digest-len-w.ensures) in
+    let n : c.depth-depth.result * c.digest_len-w.result ≡ depth * g.K.Kind.w = rw (c.depth-depth.ensures.exact, c.digest_len-w.ensures) in
     let short : depth * g.K.Kind.w ≤ 40 = path_short depth g.K.Kind.w (omega arith) c.requires.small in
-    rw (← front_zeros c.args.zeros.now 40 (c.depth-depth.result * c.digest-len-w.result) (depth * g.K.Kind.w) c.requires.zeros n short) c.path-into.ensures
+    rw (← front_zeros c.args.zeros.now 40 (c.depth-depth.result * c.digest_len-w.result) (depth * g.K.Kind.w) c.requires.zeros n short) c.path_into.ensures

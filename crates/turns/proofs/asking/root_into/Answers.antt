@@ -4,4 +4,4 @@ use Rattle.turns.proofs.asking.root_into.Goals as goal
 
 pub returns : goal.returns
 unfolding closed_root_told
-returns g c = lined_closed_root _ _ _ _ _ _ _ c.root-answer.ensures c.write-root-answer.ensures
+returns g c = lined_closed_root _ _ _ _ _ _ _ c.root-answer.ensures c.write_root_answer.ensures

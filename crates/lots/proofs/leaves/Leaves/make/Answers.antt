@@ -3,8 +3,8 @@ use Rattle.lots.proofs.Writes.{refill, below_refill}
 use Rattle.lots.proofs.Places.{zeros_of}
 use Rattle.lots.proofs.leaves.Leaves.make.Goals as goal
 
-pub invariant-of-self : goal.invariant-of-self
-invariant-of-self c =
+pub invariant_of-self : goal.invariant_of-self
+invariant_of-self c =
     let v = c.args.self.now.words in
     let n : length c.wipe.new.words ≡ v.len = c.wipe.auto.words ∙ c.deref-mut.ensures.len in
     let z : c.wipe.new.words ≡ replicate {A = ℕ} 3584 0 = c.wipe.ensures ∙ ap (λ (m : ℕ). replicate {A = ℕ} m 0) (c.deref-mut.ensures.len ∙ c.args.self.now.long) in

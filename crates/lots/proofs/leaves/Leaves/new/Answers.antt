@@ -3,8 +3,8 @@ use Rattle.lots.proofs.Writes.{state_below}
 use Rattle.lots.proofs.Places.{zeros_of}
 use Rattle.lots.proofs.leaves.Leaves.new.Goals as goal
 
-pub invariant-of-result : goal.invariant-of-result
-invariant-of-result c =
-    let v = c.in-ok-words.words in
-    let e : vec_items v ≡ replicate {A = ℕ} 3584 0 = c.in-ok-words.ensures.items-if-clones-equal (λ y h. h) in
-    (omega arith, (c.in-ok-words.ensures.len, (state_below (vec_items v) (zeros_of 3584 (vec_items v) e), tt)))
+pub invariant_of-result : goal.invariant_of-result
+invariant_of-result c =
+    let v = c.in_ok-words.words in
+    let e : vec_items v ≡ replicate {A = ℕ} 3584 0 = c.in_ok-words.ensures.items-if-clones-equal (λ y h. h) in
+    (omega arith, (c.in_ok-words.ensures.len, (state_below (vec_items v) (zeros_of 3584 (vec_items v) e), tt)))

@@ -6,8 +6,8 @@ use Rattle.lots.proofs.Writes.{refill, below_refill, table_state}
 use Rattle.lots.proofs.Places.{put_is, put_state, leaves_put}
 use Rattle.lots.proofs.leaves.Leaves.put.Goals as goal
 
-pub invariant-of-self : goal.invariant-of-self
-invariant-of-self g c =
+pub invariant_of-self : goal.invariant_of-self
+invariant_of-self g c =
     let s = g.met.K.Kind.sound in
     let self = c.args.self.now in
     let v = self.words in

@@ -6,8 +6,8 @@ use Rattle.lots.specs.Seen.{seen}
 use Rattle.lots.proofs.Steps.{not_sealed}
 use Rattle.lots.proofs.lot.Lot.seal_in.Goals as goal
 
-pub returns-in-err-place : goal.returns-in-err-place
-returns-in-err-place g c =
+pub returns-in_err-place : goal.returns-in_err-place
+returns-in_err-place g c =
     let k = g.K.Kind in
     let p = err_from_is_err_and c.from-residual.result c.from-residual.ensures.1 in
-    rw (p.1, p.2) (not_sealed k.c k.w k.mapping (seen k.c k.w c.args.self.now) c.args.station (omega arith) (all_shown k.c k.w c.seal.new.self.table) _ _ _ refl c.in-err-place.ensures.step)
+    rw (p.1, p.2) (not_sealed k.c k.w k.mapping (seen k.c k.w c.args.self.now) c.args.station (omega arith) (all_shown k.c k.w c.seal.new.self.table) _ _ _ refl c.in_err-place.ensures.step)

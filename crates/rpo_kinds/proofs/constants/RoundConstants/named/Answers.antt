@@ -8,8 +8,8 @@ use Rattle.rpo_kinds.proofs.constants.RoundConstants.named.Goals as goal
 pub read-requires : goal.read-requires
 read-requires g c = (omega arith, (c.shake256.auto.out ∙ c.requires, length-replicate g.row.N 0))
 
-pub invariant-of-result : goal.invariant-of-result
-invariant-of-result g c =
+pub invariant_of-result : goal.invariant_of-result
+invariant_of-result g c =
     let same : c.read.new.words ≡ constants_named c.args.text.now g.row.N = named_are c.args.text.now c.shake256.new.out c.read.new.words (length c.args.stream.now) g.row.N c.requires c.shake256.ensures c.read.ensures in
     let state : State g.row.N c.read.new.words = rw same (named_state c.args.text.now g.row.N) in
     (state.long, (state_below g.row.N c.read.new.words state, tt))

@@ -1,9 +1,9 @@
 use Rattle.rpo_kinds.specs.Mappings.{text_128}
 use Rattle.rpo_kinds.proofs.rpo128.Rpo128.new.Goals as goal
 
-pub invariant-of-result : goal.invariant-of-result
+pub invariant_of-result : goal.invariant_of-result
 unfolding text_128
-invariant-of-result c = (c.named-constants.ensures, tt)
+invariant_of-result c = (c.named-constants.ensures, tt)
 
 pub returns : goal.returns
 unfolding text_128

@@ -8,6 +8,6 @@ use Rattle.rpo_kinds.proofs.rpo128.Rpo128Kind.mix.Goals as goal
 pub returns : goal.returns
 unfolding rpo_128
 returns c =
-    c.copy-from-slice-2.ensures.after ∙ c.permute-12.ensures
-    ∙ ap (λ (k : List ℕ). permuted row_12 k c.copy-from-slice.new.self) c.args.self.now.derived
-    ∙ ap (permuted row_12 (constants_named text_128 168)) c.copy-from-slice.ensures.after
+    c.copy_from_slice-2.ensures.after ∙ c.permute_12.ensures
+    ∙ ap (λ (k : List ℕ). permuted row_12 k c.copy_from_slice.new.self) c.args.self.now.derived
+    ∙ ap (permuted row_12 (constants_named text_128 168)) c.copy_from_slice.ensures.after

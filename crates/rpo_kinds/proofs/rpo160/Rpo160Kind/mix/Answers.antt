@@ -8,6 +8,6 @@ use Rattle.rpo_kinds.proofs.rpo160.Rpo160Kind.mix.Goals as goal
 pub returns : goal.returns
 unfolding rpo_160
 returns c =
-    c.copy-from-slice-2.ensures.after ∙ c.permute-16.ensures
-    ∙ ap (λ (k : List ℕ). permuted row_16 k c.copy-from-slice.new.self) c.args.self.now.derived
-    ∙ ap (permuted row_16 (constants_named text_160 224)) c.copy-from-slice.ensures.after
+    c.copy_from_slice-2.ensures.after ∙ c.permute_16.ensures
+    ∙ ap (λ (k : List ℕ). permuted row_16 k c.copy_from_slice.new.self) c.args.self.now.derived
+    ∙ ap (permuted row_16 (constants_named text_160 224)) c.copy_from_slice.ensures.after

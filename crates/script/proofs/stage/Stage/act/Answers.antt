@@ -10,6 +10,6 @@ pub returns-in-Close : goal.returns-in-Close
 unfolding act
 returns-in-Close c = search rules
 
-pub returns-in-default : goal.returns-in-default
+pub returns-in_default : goal.returns-in_default
 unfolding act
-returns-in-default c = search rules
+returns-in_default c = search rules

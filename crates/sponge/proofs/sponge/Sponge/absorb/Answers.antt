@@ -9,18 +9,18 @@ overwrite-self-requires g c =
     let st = c.args.self.now.state in
     let long : length st ≡ 16 = search rules in
     record {
-      fair = front_fair g.met.K.Kind.sound st st c.state-len-m.result c.rate.result 0 c.args.self.now.filled 0 c.state-len-m.ensures c.rate.ensures (below_state st long c.args.self.now.below);
+      fair = front_fair g.met.K.Kind.sound st st c.state_len-m.result c.rate.result 0 c.args.self.now.filled 0 c.state_len-m.ensures c.rate.ensures (below_state st long c.args.self.now.below);
       small = c.args.element.below;
     }
 
-pub invariant-of-self : goal.invariant-of-self
-invariant-of-self g c =
+pub invariant_of-self : goal.invariant_of-self
+invariant_of-self g c =
     let st = c.args.self.now.state in
     let long : length st ≡ 16 = search rules in
-    (state_below _ (words_state g.met.K.Kind.sound st c.overwrite-self.new.state c.state-len-m.result c.rate.result c.overwrite-self.result c.args.self.now.filled c.args.element.word c.state-len-m.ensures c.rate.ensures (below_state st long c.args.self.now.below) c.args.element.below c.overwrite-self.ensures), tt)
+    (state_below _ (words_state g.met.K.Kind.sound st c.overwrite-self.new.state c.state_len-m.result c.rate.result c.overwrite-self.result c.args.self.now.filled c.args.element.word c.state_len-m.ensures c.rate.ensures (below_state st long c.args.self.now.below) c.args.element.below c.overwrite-self.ensures), tt)
 
 pub returns : goal.returns
 returns g c =
     let st = c.args.self.now.state in
     let long : length st ≡ 16 = search rules in
-    absorbed g.met.K.Kind.sound st c.overwrite-self.new.state c.state-len-m.result c.rate.result c.overwrite-self.result c.args.self.now.filled c.args.element.word c.state-len-m.ensures c.rate.ensures (below_state st long c.args.self.now.below) c.args.element.below c.overwrite-self.ensures
+    absorbed g.met.K.Kind.sound st c.overwrite-self.new.state c.state_len-m.result c.rate.result c.overwrite-self.result c.args.self.now.filled c.args.element.word c.state_len-m.ensures c.rate.ensures (below_state st long c.args.self.now.below) c.args.element.below c.overwrite-self.ensures
