@@ -6,21 +6,21 @@ use Rattle.lots.proofs.nodes.path.Goals as goal
 
 pub slice_bounds-read_node-end : goal.slice_bounds-read_node-end
 slice_bounds-read_node-end c =
-    let r = room c.loop-j.at c.args.w c.args.levels c.loop-j.-j c.loop-j.invariant.2 (omega arith) in
+    let r = room c.loop-j.at c.args.w c.args.levels c.loop-j._j c.loop-j.invariant.2 (omega arith) in
     omega arith
 
 pub loop-j-preserved : goal.loop-j-preserved
 loop-j-preserved c =
-    let r = room c.loop-j.at c.args.w c.args.levels c.loop-j.-j c.loop-j.invariant.2 (omega arith) in
+    let r = room c.loop-j.at c.args.w c.args.levels c.loop-j._j c.loop-j.invariant.2 (omega arith) in
     let long : length c.loop-j.out ≡ c.args.levels * c.args.w = c.loop-j.auto.out ∙ c.requires.long in
     let n : length (take (c.loop-j.at + c.args.w - c.loop-j.at) (drop c.loop-j.at c.loop-j.out)) ≡ c.args.w = simp (length-take, length-drop) (omega arith) in
     let e : c.read_node.new.out ≡ node_in c.args.w c.args.words.now c.beside-other.result = c.read_node.ensures ∙ ap (λ (m : ℕ). node_in m c.args.words.now c.beside-other.result) n in (
-      halves c.args.levels c.loop-j.-j c.loop-j.i c.loop-j.invariant.0 (omega arith),
+      halves c.args.levels c.loop-j._j c.loop-j.i c.loop-j.invariant.0 (omega arith),
       omega arith,
       r.1,
-      path_more c.args.w c.args.words.now c.args.levels c.loop-j.-j c.args.node c.loop-j.i c.loop-j.at _ c.loop-j.out c.read_node.new.out c.beside-other.result (omega arith) long c.loop-j.invariant.2 c.loop-j.invariant.3 c.beside-other.ensures e (c.read_node.auto.out ∙ n),
+      path_more c.args.w c.args.words.now c.args.levels c.loop-j._j c.args.node c.loop-j.i c.loop-j.at _ c.loop-j.out c.read_node.new.out c.beside-other.result (omega arith) long c.loop-j.invariant.2 c.loop-j.invariant.3 c.beside-other.ensures e (c.read_node.auto.out ∙ n),
     )
 
 pub returns : goal.returns
 returns c =
-    path_all c.args.w c.args.words.now c.args.levels c.loop-j.-j c.args.node c.loop-j.i c.loop-j.at c.loop-j.out (omega arith) (c.loop-j.auto.out ∙ c.requires.long) c.loop-j.invariant.2 c.loop-j.invariant.3
+    path_all c.args.w c.args.words.now c.args.levels c.loop-j._j c.args.node c.loop-j.i c.loop-j.at c.loop-j.out (omega arith) (c.loop-j.auto.out ∙ c.requires.long) c.loop-j.invariant.2 c.loop-j.invariant.3

@@ -7,4 +7,4 @@ pub invariant_of-result : goal.invariant_of-result
 invariant_of-result c =
     let v = c.in_ok-words.words in
     let e : vec_items v ≡ replicate {A = ℕ} 3584 0 = c.in_ok-words.ensures.items-if-clones-equal (λ y h. h) in
-    (omega arith, (c.in_ok-words.ensures.len, (state_below (vec_items v) (zeros_of 3584 (vec_items v) e), tt)))
+    record { shallow = omega arith; long = c.in_ok-words.ensures.len; below = state_below (vec_items v) (zeros_of 3584 (vec_items v) e) }

@@ -16,7 +16,7 @@ invariant_of-self g c =
     let n : length c.overlay.new.all ≡ v.len = c.overlay.auto.all ∙ c.deref-mut.ensures.len in
     let e : c.overlay.new.all ≡ overlaid (vec_items v) (7 * (2 ^ self.depth + c.args.place)) c.args.digest.now = put_is _ _ _ _ _ _ _ c.deref-mut.ensures.value c.places.ensures c.overlay.ensures in
     let new : State 3584 c.overlay.new.all = put_state (vec_items v) c.args.digest.now c.overlay.new.all g.K.Kind.w self.depth c.args.place (omega (arith, s.m_small, s.c_some)) self.shallow c.requires.place st c.requires.digest e in
-    (self.shallow, (self.long, (below_refill v.len c.overlay.new.all v.items n new, tt)))
+    record { shallow = self.shallow; long = self.long; below = below_refill v.len c.overlay.new.all v.items n new }
 
 pub returns : goal.returns
 returns g c =

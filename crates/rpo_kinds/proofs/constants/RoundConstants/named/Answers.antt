@@ -12,7 +12,7 @@ pub invariant_of-result : goal.invariant_of-result
 invariant_of-result g c =
     let same : c.read.new.words ≡ constants_named c.args.text.now g.row.N = named_are c.args.text.now c.shake256.new.out c.read.new.words (length c.args.stream.now) g.row.N c.requires c.shake256.ensures c.read.ensures in
     let state : State g.row.N c.read.new.words = rw same (named_state c.args.text.now g.row.N) in
-    (state.long, (state_below g.row.N c.read.new.words state, tt))
+    record { long = state.long; below = state_below g.row.N c.read.new.words state }
 
 pub returns : goal.returns
 returns g c = named_are c.args.text.now c.shake256.new.out c.read.new.words (length c.args.stream.now) g.row.N c.requires c.shake256.ensures c.read.ensures

@@ -17,7 +17,7 @@ pub invariant_of-self : goal.invariant_of-self
 invariant_of-self g c =
     let st = c.args.self.now.state in
     let long : length st ≡ 16 = search rules in
-    (state_below _ (words_state g.met.K.Kind.sound st c.overwrite-self.new.state c.state_len-m.result c.rate.result c.overwrite-self.result c.args.self.now.filled c.args.element.word c.state_len-m.ensures c.rate.ensures (below_state st long c.args.self.now.below) c.args.element.below c.overwrite-self.ensures), tt)
+    record { below = state_below _ (words_state g.met.K.Kind.sound st c.overwrite-self.new.state c.state_len-m.result c.rate.result c.overwrite-self.result c.args.self.now.filled c.args.element.word c.state_len-m.ensures c.rate.ensures (below_state st long c.args.self.now.below) c.args.element.below c.overwrite-self.ensures) }
 
 pub returns : goal.returns
 returns g c =
