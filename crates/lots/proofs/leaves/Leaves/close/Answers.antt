@@ -8,8 +8,8 @@ pub returns : goal.returns
 returns g c =
     let self = c.args.self in
     let v = self.words in
-    let n : length c.grow.new.words ≡ v.len = c.grow.auto.words ∙ c.deref-mut.ensures.len in
+    let n : length c.grow.new.words ≡ v.len = c.grow.auto.words ∙ c.deref_mut.ensures.len in
     record {
       depth = refl;
-      nodes = ap (nodes_in g.K.Kind.w self.depth) (refill v.len c.grow.new.words v.items n) ∙ nodes_grown self.depth (grown_as self.depth _ (vec_items v) _ _ c.deref-mut.ensures.value c.places.ensures c.grow.ensures);
+      nodes = ap (nodes_in g.K.Kind.w self.depth) (refill v.len c.grow.new.words v.items n) ∙ nodes_grown self.depth (grown_as self.depth _ (vec_items v) _ _ c.deref_mut.ensures.value c.places.ensures c.grow.ensures);
     }

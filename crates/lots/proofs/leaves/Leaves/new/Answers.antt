@@ -6,5 +6,5 @@ use Rattle.lots.proofs.leaves.Leaves.new.Goals as goal
 pub invariant_of-result : goal.invariant_of-result
 invariant_of-result c =
     let v = c.in_ok-words.words in
-    let e : vec_items v ≡ replicate {A = ℕ} 3584 0 = c.in_ok-words.ensures.items-if-clones-equal (λ y h. h) in
+    let e : vec_items v ≡ replicate {A = ℕ} 3584 0 = c.in_ok-words.ensures.items_if_clones_equal (λ y h. h) in
     record { shallow = omega arith; long = c.in_ok-words.ensures.len; below = state_below (vec_items v) (zeros_of 3584 (vec_items v) e) }
