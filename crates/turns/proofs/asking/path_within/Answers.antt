@@ -9,7 +9,7 @@ slice_bounds-path_into-end g c =
     omega arith
 
 pub path_into-requires : goal.path_into-requires
-path_into-requires g c lfts =
+path_into-requires g c =
     let n = path_short c.depth-depth.result c.digest_len-w.result c.depth-depth.ensures.shallow (omega arith) in
     (c.requires.room, front_short c.args.zeros.now _ (zeros_long c.args.zeros.now c.requires.zeros) n)
 
