@@ -53,7 +53,8 @@ impl<'a> Runner<'a> {
                     Some(Err(ScriptFault::OutOfPhase(self.at)))
                 }
             }
-            rest => rest,
+            Some(Err(fault)) => Some(Err(fault)),
+            None => None,
         }
     }
 

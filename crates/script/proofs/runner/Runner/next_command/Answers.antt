@@ -1,4 +1,5 @@
-use Rattle.std.proofs.Common.{rules}
+use Rattle.std.proofs.Common.{length, refl, rules}
+use Rattle.std.proofs.lemmas.Bool.{le-ltb}
 use Rattle.script.specs.Runs.{next_command}
 use Rattle.script.proofs.runner.Runner.next_command.Goals as goal
 
@@ -18,10 +19,13 @@ pub returns-else-allows : goal.returns-else-allows
 unfolding next_command
 returns-else-allows c = search rules
 
-pub returns-in_default-read_at : goal.returns-in_default-read_at
+pub returns-in-Some-Err : goal.returns-in-Some-Err
 unfolding next_command
-returns-in_default-read_at c = search rules
+returns-in-Some-Err c =
+    let script = c.args.self.now.script.now in
+    let read = rw c.in-Some-Err.field-0-is at c.in-Some-Err.ensures in
+    rw (← c.in-Some.ensures, le-ltb 65536 (length script) c.if-self-gt65536.false, ← read) refl
 
-pub returns-in_default-read_at·2 : goal.returns-in_default-read_at·2
+pub returns-in-None : goal.returns-in-None
 unfolding next_command
-returns-in_default-read_at·2 c = search rules
+returns-in-None c = search rules
