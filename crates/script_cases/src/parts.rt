@@ -23,7 +23,7 @@ fn byte(high: u8, low: u8) -> Option<u8> {
 
 // Adds the bytes of a hexadecimal text, and says whether it was one. `-` stands for no bytes.
 fn push_hex(script: &mut Vec<u8>, text: &[u8]) -> Result<bool, AllocError> {
-    if text == b"-" {
+    if text == b"-".as_slice() {
         return Ok(true);
     }
     for pair in text.chunks(2) {

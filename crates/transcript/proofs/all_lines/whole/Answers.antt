@@ -3,7 +3,7 @@ use Rattle.script.specs.Runs.{fresh, next_line, left}
 use Rattle.script.specs.Shown.{shown}
 use Rattle.transcript.specs.Transcripts.{transcript}
 use Rattle.transcript.proofs.Going.{Out, going_first, going_more, going_all}
-use Rattle.transcript.proofs.lines.whole.Goals as goal
+use Rattle.transcript.proofs.all_lines.whole.Goals as goal
 
 pub lines-init : goal.lines-init
 unfolding transcript
