@@ -1,5 +1,5 @@
 -- Worked examples, as theorems about the definitions that the contracts cite. Each line can be worked out by hand.
-use Rattle.std.specs.Prelude.{◌≡◌, ℕ, ◌-◌, ◌%◌, ◌^◌, true, false, List, [], ◌∷◌, replicate, Some, None}
+use Rattle.std.specs.Prelude.{◌≡◌, ◌-◌, ◌%◌, ◌^◌, true, false, [], ◌∷◌, replicate, Some, None}
 use Rattle.kinds.specs.Answers.{granted}
 use Rattle.openings.specs.Checks.{check_call}
 use Rattle.finder.specs.Findings.{pairs, records, zero_record, find_call}

@@ -1,5 +1,5 @@
-// What C and Rust can call. A call that can be refused answers with 0 where it is granted, else with the number of its
-// refusal.
+// What C and Rust can call: the static library `ffi_c` exports these calls under their names. A call that can be refused
+// answers with 0 where it is granted, else with the number of its refusal.
 #![tactic(auto)]
 
 mod code;

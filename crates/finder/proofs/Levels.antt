@@ -1,5 +1,5 @@
 -- The highest level that fails a test, and paths whose parts are alike.
-use Rattle.std.proofs.Common.{◌≡◌, ℕ, zero, suc, ◌-◌, ◌*◌, ◌<◌, ◌≤◌, Bool, true, false, List, length, take, sym, ◌∙◌, ⊎_elim, suc-mul, zero-mul, arith, take-add}
+use Rattle.std.proofs.Common.{◌≡◌, ℕ, zero, suc, ◌*◌, ◌<◌, ◌≤◌, Bool, true, false, List, length, take, sym, ◌∙◌, ⊎_elim, suc-mul, zero-mul, arith, take-add}
 use Rattle.std.proofs.lemmas.Bool.{cases_Bool, cases_eq}
 use Rattle.std.proofs.lemmas.List.{take_all}
 use Rattle.openings.specs.Opening.{part_at}

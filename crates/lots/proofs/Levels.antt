@@ -6,7 +6,7 @@ use Rattle.sponge.proofs.Parts.{cut_state}
 use Rattle.sponge.proofs.Pairs.{pair_state}
 use Rattle.model.specs.Trees.{node, tree_value}
 use Rattle.model.specs.Lots.{leaf_at}
-use Rattle.lots.specs.Nodes.{node_in, under, leaves_in}
+use Rattle.lots.specs.Nodes.{under, leaves_in}
 use Rattle.lots.proofs.Places.{leaf_is}
 
 pub under_more : (c w : ℕ) (F : List ℕ → List ℕ) (ws : List ℕ) (n level i : ℕ) → level ≡ n + 1 → under c w F ws level i ≡ two_to_one c w F (under c w F ws n (2 * i)) (under c w F ws n (2 * i + 1))

@@ -1,5 +1,5 @@
 -- What an opening that is admitted has.
-use Rattle.std.proofs.Common.{◌≡◌, ℕ, ◌+◌, ◌-◌, ◌*◌, ◌≤◌, Bool, true, false, not, eqb, List, ◌++◌, length, take, replicate, Some, None, Option, sym, refl, ap, ◌∙◌, mul-le-mul, arith}
+use Rattle.std.proofs.Common.{◌≡◌, ℕ, ◌-◌, ◌*◌, ◌≤◌, Bool, true, false, not, eqb, List, ◌++◌, length, take, replicate, Some, None, Option, sym, refl, ap, ◌∙◌, mul-le-mul, arith}
 use Rattle.std.proofs.lemmas.Bool.{ltb-false, eqb-true}
 use Rattle.field.specs.Field.{Elements}
 use Rattle.kinds.specs.Kinds.{Sound}

@@ -1,6 +1,6 @@
 -- An opening: a claim, which is a record or nothing for an empty place, and a path of one digest for each level below
 -- the root; and what it comes to, over a kind with capacity size c, digest size w and mapping F.
-use Rattle.std.specs.Prelude.{◌≡◌, ℕ, zero, suc, ◌+◌, ◌*◌, ◌/◌, ◌%◌, ◌^◌, ◌≤◌, Bool, true, false, cond, ◌&&◌, List, [], ◌∷◌, ◌++◌, length, take, drop, Some, None, Option, ◌==◌}
+use Rattle.std.specs.Prelude.{◌≡◌, ℕ, zero, suc, ◌*◌, ◌/◌, ◌%◌, ◌^◌, ◌≤◌, Bool, true, false, cond, ◌&&◌, List, [], ◌∷◌, ◌++◌, length, take, drop, Some, None, Option, ◌==◌}
 use Rattle.field.specs.Field.{Elements}
 use Rattle.sponge.specs.Digests.{two_to_one}
 use Rattle.model.specs.Trees.{leaf}

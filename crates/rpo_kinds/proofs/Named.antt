@@ -1,5 +1,5 @@
 -- Named constants are elements, and the kinds that they make undo themselves.
-use Rattle.std.proofs.Common.{◌≡◌, ℕ, ◌*◌, ◌%◌, ◌<◌, List, length, get_or, ap, ◌∙◌, arith}
+use Rattle.std.proofs.Common.{◌≡◌, ℕ, ◌*◌, ◌<◌, List, length, ap, ◌∙◌, arith}
 use Rattle.std.specs.List.{AllWithin}
 use Rattle.std.proofs.lemmas.List.{get_or_default}
 use Rattle.field.specs.Field.{p, Elements}
@@ -9,7 +9,7 @@ use Rattle.shake.specs.Shake.{shake256_bytes}
 use Rattle.rpo.specs.Matrix.{made_by}
 use Rattle.rpo.proofs.Inverses.{made_state}
 use Rattle.rpo.proofs.Rounds.{undo_both}
-use Rattle.rpo_kinds.specs.Constants.{little_endian, constant_at, constants_named}
+use Rattle.rpo_kinds.specs.Constants.{constant_at, constants_named}
 use Rattle.rpo_kinds.specs.Mappings.{text_128, text_160, rpo_128, rpo_128_back, rpo_160, rpo_160_back, MixingsUndone}
 
 constant_small : (bytes : List ℕ) (i : ℕ) → constant_at bytes i < p

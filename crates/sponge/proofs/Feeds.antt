@@ -1,14 +1,14 @@
 -- What an element fed leaves, and elements fed one after the other.
-use Rattle.std.proofs.Common.{◌≡◌, ℕ, zero, suc, ◌+◌, ◌-◌, ◌*◌, ◌%◌, ◌<◌, ◌≤◌, cond, eqb, ◌≢◌, List, [], ◌∷◌, ◌++◌, length, get_or, take, drop, set, replicate, sym, refl, ap, ◌∙◌, add-zero, mod-lt, mod-eq_of_lt, zero-add, add-one, arith}
-use native.Mathlib.Nat.{suc-mod, mod_self, mod-mod, zero-mod}
+use Rattle.std.proofs.Common.{◌≡◌, ℕ, suc, ◌+◌, ◌-◌, ◌*◌, ◌%◌, ◌<◌, ◌≤◌, eqb, ◌≢◌, List, [], ◌∷◌, ◌++◌, length, get_or, take, set, replicate, sym, refl, ap, ◌∙◌, add-zero, mod-lt, mod-eq_of_lt, add-one, arith}
+use native.Mathlib.Nat.{suc-mod, mod_self, mod-mod}
 use Rattle.std.proofs.lemmas.Bool.{cond_both, eqb-true, eqb-false, ne_eqb}
 use Rattle.std.proofs.lemmas.List.Sums.{fold_push, fold_more}
-use Rattle.std.proofs.lemmas.List.{length-replicate, take_at, take-replicate, replicate_more, drop-take, take-take, take_all}
+use Rattle.std.proofs.lemmas.List.{length-replicate, replicate_more}
 use Rattle.field.specs.Field.{p, Elements}
-use Rattle.kinds.specs.Kinds.{State, Sound}
-use Rattle.sponge.specs.Digests.{cut, filling, first_state}
-use Rattle.sponge.specs.Streams.{Stream, fed, fed_all, begun, finished, Fair}
-use Rattle.sponge.proofs.Parts.{set_state, each_cons, each_zeros, cut_state}
+use Rattle.kinds.specs.Kinds.{Sound}
+use Rattle.sponge.specs.Digests.{filling}
+use Rattle.sponge.specs.Streams.{Stream, fed, fed_all, begun, Fair}
+use Rattle.sponge.proofs.Parts.{set_state, each_cons, each_zeros}
 
 pub fed_append : (c w : ℕ) (F : List ℕ → List ℕ) (s : Stream) (xs ys : List ℕ) → fed_all c w F s (xs ++ ys) ≡ fed_all c w F (fed_all c w F s xs) ys
 fed_append c w F s [] ys = refl

@@ -1,11 +1,11 @@
 -- A record fed element by element comes to its digest by blocks, and a digest is made of elements.
-use Rattle.std.proofs.Common.{◌≡◌, ℕ, suc, ◌+◌, ◌-◌, ◌*◌, ◌/◌, ◌%◌, ◌<◌, ◌≤◌, eqb, ◌≢◌, List, [], ◌∷◌, ◌++◌, length, replicate, sym, refl, ap, ◌∙◌, mod-lt, suc-mul, div-add-mod', zero-add, arith}
+use Rattle.std.proofs.Common.{◌≡◌, ℕ, suc, ◌+◌, ◌-◌, ◌*◌, ◌/◌, ◌%◌, ◌<◌, ◌≤◌, eqb, ◌≢◌, List, [], ◌∷◌, ◌++◌, length, replicate, sym, ap, ◌∙◌, mod-lt, suc-mul, div-add-mod', zero-add, arith}
 use native.Mathlib.Nat.{div-eq_of_eq-mul_left, zero-mod}
 use Rattle.std.proofs.lemmas.Bool.{cond_both, eqb-true, eqb-false}
 use Rattle.std.proofs.lemmas.List.{length-append, length-replicate}
 use Rattle.field.specs.Field.{p, Elements}
 use Rattle.kinds.specs.Kinds.{State, Sound}
-use Rattle.sponge.specs.Digests.{cut, filling, filled, first_state, record_digest, start_of, digest_of}
+use Rattle.sponge.specs.Digests.{cut, filling, filled, first_state, start_of, digest_of}
 use Rattle.sponge.specs.Streams.{Stream, fed_all, begun, finished, Fair, StreamsToDigests}
 use Rattle.sponge.proofs.Parts.{each_none, each_cons, each_zeros, each_append, cut_state}
 use Rattle.sponge.proofs.Feeds.{fed_append, all_count, all_fair, begun_fair, filling_mod}

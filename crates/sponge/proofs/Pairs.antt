@@ -1,13 +1,12 @@
 -- The state that a pair of digests is hashed from, and the refusals of a pair.
-use Rattle.std.proofs.Common.{◌≡◌, ℕ, ◌+◌, ◌-◌, ◌*◌, ◌<◌, ◌≤◌, List, [], ◌∷◌, ◌++◌, length, take, drop, replicate, sym, refl, ap, ◌∙◌, arith}
+use Rattle.std.proofs.Common.{◌≡◌, ℕ, ◌+◌, ◌-◌, ◌*◌, ◌<◌, ◌≤◌, List, [], ◌∷◌, ◌++◌, length, take, drop, replicate, sym, ap, ◌∙◌, arith}
 use Rattle.std.proofs.lemmas.Bool.{eq-eqb, lt-ltb, le-ltb}
 use Rattle.std.proofs.lemmas.List.{length-append, length-replicate, take-replicate, drop-replicate, take_at, drop_all, append_assoc, append-nil}
-use Rattle.field.specs.Field.{p, Elements}
 use Rattle.kinds.specs.Kinds.{State, Sound}
 use Rattle.kinds.specs.Answers.{Answer, granted, denied}
 use Rattle.kinds.specs.Words.{first_bad}
 use Rattle.kinds.proofs.FirstBad.{first_front, first_append}
-use Rattle.sponge.specs.Digests.{cut, two_to_one}
+use Rattle.sponge.specs.Digests.{two_to_one}
 use Rattle.sponge.specs.Calls.{pair_call}
 use Rattle.sponge.specs.Overlays.{overlaid}
 use Rattle.sponge.proofs.Parts.{each_append, each_zeros, cut_state}

@@ -1,5 +1,5 @@
 -- A sponge that is fed element by element: the state, and how many elements of its block it has.
-use Rattle.std.specs.Prelude.{◌≡◌, ℕ, ◌+◌, ◌*◌, ◌%◌, ◌<◌, cond, List, ◌++◌, length, take, fold, ◌==◌, slice_set}
+use Rattle.std.specs.Prelude.{◌≡◌, ℕ, ◌+◌, ◌*◌, ◌%◌, ◌<◌, cond, List, take, fold, ◌==◌, slice_set}
 use Rattle.field.specs.Field.{p, Elements}
 use Rattle.kinds.specs.Kinds.{State}
 use Rattle.sponge.specs.declared.sponge.Sponge.{Sponge}

@@ -1,19 +1,18 @@
 -- Each command keeps the lot one that calls leave.
-use Rattle.std.proofs.Common.{◌≡◌, ℕ, zero, suc, ◌≤◌, eqb, ltb, List, [], ◌∷◌, ◌++◌, Some, None, Ok, Err, Option, Result, sym, refl, ap, ◌∙◌, arith}
+use Rattle.std.proofs.Common.{◌≡◌, ℕ, zero, suc, ◌≤◌, ltb, List, [], ◌∷◌, ◌++◌, Some, None, Ok, Err, Option, Result, sym, refl, ap, ◌∙◌}
 use Rattle.std.proofs.lemmas.Bool.{cond_both, ltb-false}
 use Rattle.kinds.specs.declared.denial.Denial.{Denial}
 use Rattle.kinds.specs.declared.denial.Denial.TheVariants as denial
 use Rattle.reader.specs.declared.orders.Order.{Order}
 use Rattle.reader.specs.declared.orders.Order.TheVariants as order
-use Rattle.reader.specs.declared.fault.ScriptFault.{ScriptFault}
 use Rattle.reader.specs.Commands.{Reading}
 use Rattle.reader.specs.Orders.{order_of}
 use Rattle.model.specs.Calls.{Call, begin, feed, feed_eight, seal, abandon, clear, History}
-use Rattle.model.specs.Lots.{Lot, newly_made, step, run, lot_after}
+use Rattle.model.specs.Lots.{Lot, newly_made, step, run}
 use Rattle.turns.specs.Turns.{filled}
-use Rattle.script.specs.Stages.{Name, drill_kind, rpo_128_kind, rpo_160_kind, name_of, capacity, digest, mixing, any_closed, new_lot, named_lot, started_as, started, Stage, before, filling, closed, ended, start_with, start_in, close_in, run_in, act}
+use Rattle.script.specs.Stages.{Name, name_of, capacity, digest, mixing, any_closed, new_lot, named_lot, started_as, started, Stage, before, filling, closed, ended, start_with, start_in, close_in, run_in, act}
 use Rattle.script.specs.Runs.{Run, fresh, next_command, turn}
-use Rattle.transcript.specs.Lots.{advanced_by, after_lines, LeftByCalls, ClosedAfterCalls, OfCalls, ScriptsRunLots}
+use Rattle.transcript.specs.Lots.{advanced_by, after_lines, LeftByCalls, OfCalls, ScriptsRunLots}
 
 -- a run goes on where one ends
 run_append : (c w : ℕ) (F : List ℕ → List ℕ) (at : Lot × History) (ks js : List Call) → run c w F at (ks ++ js) ≡ run c w F (run c w F at ks) js

@@ -1,5 +1,4 @@
-use Rattle.std.proofs.Common.{◌≡◌, ◌+◌, ◌-◌, ◌*◌, ◌^◌, ◌<◌, sym, ap, ◌∙◌, arith}
-use Rattle.sponge.specs.Digests.{two_to_one}
+use Rattle.std.proofs.Common.{◌+◌, ◌-◌, ◌*◌, ◌^◌, ◌<◌, sym, arith}
 use Rattle.lots.proofs.Levels.{child_low, under_state, under_more}
 use Rattle.lots.proofs.heap.+tree.Goals as goal
 

@@ -1,7 +1,7 @@
-use Rattle.std.proofs.Common.{◌≡◌, length, ap, ◌∙◌}
-use Rattle.sponge.specs.Digests.{record_digest, start_of}
-use Rattle.sponge.specs.Streams.{Stream, fed_all, begun, finished}
-use Rattle.sponge.proofs.Joins.{streams_to_digests, start_small}
+use Rattle.std.proofs.Common.{ap, ◌∙◌}
+use Rattle.sponge.specs.Digests.{record_digest}
+use Rattle.sponge.specs.Streams.{Stream, fed_all, finished}
+use Rattle.sponge.proofs.Joins.{streams_to_digests}
 use Rattle.sponge.proofs.digest.digest_elements.Goals as goal
 
 pub returns : goal.returns

@@ -1,4 +1,4 @@
-use Rattle.std.proofs.Common.{◌≡◌, length, arith}
+use Rattle.std.proofs.Common.{arith}
 use Rattle.kinds.proofs.FirstBad.{all_from}
 use Rattle.sponge.proofs.Pairs.{front_refused, back_refused, pair_granted}
 use Rattle.sponge.proofs.pair.two_to_one.Goals as goal

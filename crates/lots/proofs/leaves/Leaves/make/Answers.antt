@@ -1,4 +1,4 @@
-use Rattle.std.proofs.Common.{◌≡◌, ℕ, ◌<◌, length, take, drop, replicate, refl, ap, ◌∙◌, arith}
+use Rattle.std.proofs.Common.{◌≡◌, ℕ, length, replicate, refl, ap, ◌∙◌}
 use Rattle.lots.proofs.Writes.{refill, below_refill}
 use Rattle.lots.proofs.Places.{zeros_of}
 use Rattle.lots.proofs.leaves.Leaves.make.Goals as goal

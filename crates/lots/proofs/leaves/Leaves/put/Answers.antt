@@ -1,4 +1,4 @@
-use Rattle.std.proofs.Common.{◌≡◌, ℕ, ◌+◌, ◌*◌, ◌^◌, ◌≤◌, List, length, vec_items, sym, refl, ap, ◌∙◌, arith}
+use Rattle.std.proofs.Common.{◌≡◌, ◌+◌, ◌*◌, ◌^◌, length, vec_items, sym, refl, ap, ◌∙◌, arith}
 use Rattle.sponge.specs.Overlays.{overlaid}
 use Rattle.kinds.specs.Kinds.{State}
 use Rattle.lots.specs.Nodes.{leaves_in}

@@ -1,4 +1,4 @@
-use Rattle.std.proofs.Common.{◌≡◌, ℕ, length, vec_items, sym, refl, ap, ◌∙◌, arith}
+use Rattle.std.proofs.Common.{◌≡◌, length, vec_items, sym, ◌∙◌, arith}
 use Rattle.lots.proofs.Writes.{table_state}
 use Rattle.lots.proofs.Levels.{root_low, root_is}
 use Rattle.lots.proofs.leaves.Leaves.root.Goals as goal

@@ -1,6 +1,5 @@
 use Rattle.std.proofs.Common.{refl, arith}
 use Rattle.std.proofs.lemmas.Result.{err_from_is_err_and}
-use Rattle.kinds.specs.Denials.{told}
 use Rattle.stations.specs.Tables.{all_shown}
 use Rattle.lots.specs.Seen.{seen}
 use Rattle.lots.proofs.Steps.{not_sealed}

@@ -1,4 +1,4 @@
-use Rattle.std.proofs.Common.{◌≡◌, ℕ, List, ap, ◌∙◌}
+use Rattle.std.proofs.Common.{ℕ, List, ap, ◌∙◌}
 use Rattle.rpo.specs.Rows.{inverse_12}
 use Rattle.rpo.specs.Permutation.{reversed}
 use Rattle.rpo_kinds.specs.Constants.{constants_named}

@@ -1,4 +1,4 @@
-use Rattle.std.proofs.Common.{◌≡◌, ℕ, List, ap, ◌∙◌}
+use Rattle.std.proofs.Common.{ℕ, List, ap, ◌∙◌}
 use Rattle.rpo.specs.Rows.{row_16}
 use Rattle.rpo.specs.Permutation.{permuted}
 use Rattle.rpo_kinds.specs.Constants.{constants_named}

@@ -1,5 +1,4 @@
 use Rattle.std.proofs.Common.{◌≡◌, length, rules}
-use Rattle.kinds.specs.Kinds.{State}
 use Rattle.sponge.proofs.Parts.{state_below, below_state}
 use Rattle.sponge.proofs.Sponges.{front_fair, words_state, absorbed}
 use Rattle.sponge.proofs.sponge.Sponge.absorb.Goals as goal

@@ -1,4 +1,4 @@
-use Rattle.std.proofs.Common.{◌≡◌, ℕ, ◌+◌, ◌-◌, ◌*◌, ◌%◌, ◌<◌, refl, ap, mod-lt, arith}
+use Rattle.std.proofs.Common.{◌≡◌, ℕ, ◌+◌, ◌-◌, ◌%◌, ◌<◌, refl, ap, mod-lt, arith}
 use Rattle.sponge.specs.Streams.{held}
 use Rattle.sponge.proofs.Feeds.{fed_zeros, filled_up}
 use Rattle.sponge.proofs.sponge.Sponge.fill_up.Goals as goal

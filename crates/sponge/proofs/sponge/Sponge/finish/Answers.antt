@@ -1,4 +1,4 @@
-use Rattle.std.proofs.Common.{◌≡◌, ℕ, List, ap}
+use Rattle.std.proofs.Common.{ap}
 use Rattle.sponge.specs.Streams.{Stream}
 use Rattle.sponge.proofs.Sponges.{cut_of}
 use Rattle.sponge.proofs.sponge.Sponge.finish.Goals as goal

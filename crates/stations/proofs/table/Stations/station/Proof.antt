@@ -17,7 +17,7 @@ use sound.WpLaws.{WpFn-mono}
 use types.Kit.{Item, mean, ‵, raw, ◌⊛◌, some, later, await, group, ◌$◌, ◌∵◌, !, qed, by, move, keep, use1, use2, drop, split, join, pick, rewrite, fsplit, fsplit3, fjoin, feq_l, feq_i, suffices, frame, done}
 use types.Mut.{open_ref}
 use types.Run.{size_lit, stop, fld, addr, bin, returns, enter}
-use types.ByLocal.{alloc_all, pass_all, free_all, look_at, get, through, sets, env}
+use types.ByLocal.{alloc_all, pass_all, free_all, look_at, get, through, sets}
 use denote.Exit.{yes, no}
 use denote.RattleType.{RattleType, owns}
 use denote.Memory.{part_at, mem, shares}

@@ -1,0 +1,6 @@
+// What C and Rust link: the calls of `ffi` as a static library, each under the clauses that it has there.
+#![tactic(auto)]
+
+pub mod field_calls;
+pub mod hash_calls;
+pub mod mix_calls;
