@@ -1,6 +1,6 @@
 ghost use Rattle.std.specs.Prelude.{◌≡◌, ◌<◌, [], length as long, IfOk};
 ghost use Rattle.kinds.specs.Denials.{told};
-ghost use Rattle.model.specs.Calls.{making, begin as beginning, feed as feeding, feed_eight as feeding-eight, seal as sealing, abandon as abandoning, clear as clearing, root as rooting};
+ghost use Rattle.model.specs.Calls.{making, begin as beginning, feed as feeding, feed_eight as feeding_eight, seal as sealing, abandon as abandoning, clear as clearing, root as rooting};
 ghost use Rattle.model.specs.Lots.{newly_made, step};
 ghost use Rattle.model.specs.Closed.{closed};
 ghost use Rattle.lots.specs.Seen.{seen, seen_closed};
@@ -59,7 +59,7 @@ impl<K: Kind> Lot<K> {
 
     // Eight words, all or none.
     pub fn feed_eight(&mut self, station: u8, words: &[u64; 8]) -> Result<(), Denial>
-        ensures { (seen K.Kind.c K.Kind.w self.new, told result, []) ≡ step K.Kind.c K.Kind.w K.Kind.mapping (seen K.Kind.c K.Kind.w self.old) (feeding-eight station words.now) }
+        ensures { (seen K.Kind.c K.Kind.w self.new, told result, []) ≡ step K.Kind.c K.Kind.w K.Kind.mapping (seen K.Kind.c K.Kind.w self.old) (feeding_eight station words.now) }
     {
         if station > 7 {
             return Err(Denial::NoSuchStation);

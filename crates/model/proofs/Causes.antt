@@ -1,6 +1,6 @@
 -- What a granted call tells of the causes of its refusal.
 use Rattle.std.proofs.Common.{◌≡◌, ℕ, ◌<◌, ◌≤◌, false, eqb, ltb, List, [], ◌∷◌, length, refl, ⊎_elim, arith}
-use Rattle.std.specs.List.{AllByRecursion as All}
+use Rattle.std.specs.List.{AllByRecursion}
 use Rattle.std.proofs.lemmas.Bool.{cases_Bool, ltb-false, eqb-false, or_parts}
 use Rattle.field.specs.Field.{Elements}
 use Rattle.kinds.specs.Answers.{Answer, granted, denied, Cause, answer, if_granted}
@@ -10,7 +10,7 @@ use Rattle.sponge.specs.Calls.{bad_length}
 use Rattle.model.specs.Calls.{no_station}
 
 abbrev pub NoneThere : List Cause → Type 0
-NoneThere xs = All (λ x. x.0 ≡ false) xs
+NoneThere xs = AllByRecursion (λ x. x.0 ≡ false) xs
 
 pub none_there : (xs : List Cause) → answer xs ≡ granted → NoneThere xs
 none_there [] e = tt

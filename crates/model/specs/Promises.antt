@@ -1,6 +1,6 @@
 -- The promise of order, over whole runs: what stations do, and when, reaches a root or a path by the last records alone.
 use Rattle.std.specs.Prelude.{◌≡◌, ℕ, ◌^◌, ◌<◌, ◌≤◌, Bool, true, false, List}
-use Rattle.std.specs.List.{AllByRecursion as All}
+use Rattle.std.specs.List.{AllByRecursion}
 use Rattle.model.specs.Calls.{Call, making, begin, feed, feed_eight, seal, abandon, clear, root}
 use Rattle.model.specs.Histories.{last_record}
 use Rattle.model.specs.Lots.{Lot, step, lot_after, history_of}
@@ -17,7 +17,7 @@ makes (clear p) = false
 makes (root b) = false
 
 abbrev pub NoMakings : List Call → Type 0
-NoMakings ks = All (λ k. makes k ≡ false) ks
+NoMakings ks = AllByRecursion (λ k. makes k ≡ false) ks
 
 module _ (c w : ℕ) (F : List ℕ → List ℕ) where
   -- root, and root and open once closed, answer and write the same for two lots, for any place and any buffer

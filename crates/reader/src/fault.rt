@@ -1,6 +1,6 @@
 ghost use Rattle.std.specs.Prelude.{◌≡◌};
 ghost use Rattle.std.specs.Option.{option_to_list};
-ghost use Rattle.reader.specs.declared.fault.ScriptFault.TheVariants.{Denied as denied-by-lot};
+ghost use Rattle.reader.specs.declared.fault.ScriptFault.TheVariants.{Denied as denied_by_lot};
 ghost use Rattle.reader.specs.Faults.{number_of, layer_of, values_of};
 
 use kinds::denial::{Denial, Layer};
@@ -17,7 +17,7 @@ pub enum ScriptFault {
 }
 
 impl From<Denial> for ScriptFault {
-    ghost from_gives = { λ e r. r ≡ denied-by-lot e };
+    ghost from_gives = { λ e r. r ≡ denied_by_lot e };
 
     fn from(e: Denial) -> ScriptFault {
         ScriptFault::Denied(e)
