@@ -81,6 +81,7 @@ impl Reversible for Rpo128 {
         12
     }
 
+    #[tactic(auto, using(crate::proofs::Named::below_elements), unfolding(crate::specs::Mappings::rpo_128_back))]
     fn unmix(&self, state: &mut [u64]) {
         let mut s = [0u64; 12];
         s.copy_from_slice(state);

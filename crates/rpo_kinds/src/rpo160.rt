@@ -81,6 +81,7 @@ impl Reversible for Rpo160 {
         16
     }
 
+    #[tactic(auto, using(crate::proofs::Named::below_elements), unfolding(crate::specs::Mappings::rpo_160_back))]
     fn unmix(&self, state: &mut [u64]) {
         let mut s = [0u64; 16];
         s.copy_from_slice(state);
