@@ -14,6 +14,11 @@ use Rattle.lots.specs.Nodes.{node_in, leaves_in, nodes_in, Grown}
 use Rattle.lots.proofs.Writes.{overlaid_state, laid_rest, laid_here, same_node}
 use Rattle.lots.proofs.Places.{leaf_is}
 
+pub hash_state : {m c w : ℕ} {F : List ℕ → List ℕ} → Sound m c w F → (i : ℕ) (ws : List ℕ) → State 3584 ws → i < 256 → State w (two_to_one c w F (node_in w ws (2 * i)) (node_in w ws (2 * i + 1)))
+hash_state {m} {c} {w} {F} s i ws st h =
+    let w7 : w ≤ 7 = omega (arith, s.m_small, s.c_some) in
+    pair_state s (node_in w ws (2 * i)) (node_in w ws (2 * i + 1)) (cut_state (7 * (2 * i)) w ws st (omega arith)) (cut_state (7 * (2 * i + 1)) w ws st (omega arith))
+
 pub grown_more : {m c w : ℕ} {F : List ℕ → List ℕ} → Sound m c w F → (n i half : ℕ) (old mid new : List ℕ) → Grown c w F i half old mid → i ≡ n + 1 → 1 ≤ n → i ≤ half → half ≤ 256
     → new ≡ overlaid mid (7 * n) (two_to_one c w F (node_in w mid (2 * n)) (node_in w mid (2 * n + 1))) → Grown c w F n half old new
 grown_more {m} {c} {w} {F} s n i half old mid new g en pn hi hh e =
@@ -21,7 +26,7 @@ grown_more {m} {c} {w} {F} s n i half old mid new g en pn hi hh e =
     let st = g.state in
     let len : length mid ≡ 3584 = st.long in
     let h : List ℕ = two_to_one c w F (node_in w mid (2 * n)) (node_in w mid (2 * n + 1)) in
-    let hs : State w h = pair_state s (node_in w mid (2 * n)) (node_in w mid (2 * n + 1)) (cut_state (7 * (2 * n)) w mid st (omega arith)) (cut_state (7 * (2 * n + 1)) w mid st (omega arith)) in
+    let hs : State w h = hash_state s n mid st (omega arith) in
     let hl : length h ≡ w = hs.long in
     let past : (k : ℕ) → 7 * (n + 1) ≤ k → drop k new ≡ drop k mid = λ k l. ap (drop k) e ∙ laid_rest mid (7 * n) h k (omega arith) (omega arith) in
     let same : (j : ℕ) → n < j → node_in w new j ≡ node_in w mid j = λ j l. same_node w (7 * (n + 1)) j new mid (past (7 * (n + 1)) (omega arith)) (omega arith) in
@@ -33,10 +38,6 @@ grown_more {m} {c} {w} {F} s n i half old mid new g en pn hi hh e =
       rest = past (7 * half) (omega arith) ∙ g.rest;
       inner = λ j l u. ⊎_elim (λ b. same j b ∙ g.inner j (omega arith) u ∙ pair j l) (λ b. let ej : n ≡ j = omega arith in rw (← ej) (here ∙ pair n (omega arith))) (cases_lt n j);
     }
-
--- as the program grows it: over what it reads, r, with p places
-pub grown_as : {c w : ℕ} {F : List ℕ → List ℕ} (d p : ℕ) (ws r new : List ℕ) → r ≡ ws → p ≡ 2 ^ d → Grown c w F 1 p r new → Grown c w F 1 (2 ^ d) ws new
-grown_as d p ws r new er ep g = rw (er, ep) at g
 
 level_up : (d h i : ℕ) → 2 ^ (d - suc h) ≤ i → 2 ^ (d - h) ≤ 2 * i
 level_up d h i l =

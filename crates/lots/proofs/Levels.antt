@@ -1,5 +1,6 @@
 -- The tree over a table's leaves, worked out level by level.
-use Rattle.std.proofs.Common.{◌≡◌, ℕ, zero, suc, ◌+◌, ◌-◌, ◌*◌, ◌^◌, ◌<◌, ◌≤◌, List, take, replicate, sym, ap, ◌∙◌, pow-suc, add-one, arith, pow_mono}
+use Rattle.std.proofs.Common.{◌≡◌, ℕ, zero, suc, ◌+◌, ◌-◌, ◌*◌, ◌^◌, ◌<◌, ◌≤◌, List, length, take, replicate, sym, ap, ◌∙◌, pow-suc, add-one, arith, pow_mono}
+use Rattle.std.proofs.lemmas.List.{length-take, length-replicate}
 use Rattle.kinds.specs.Kinds.{State, Sound}
 use Rattle.sponge.specs.Digests.{two_to_one}
 use Rattle.sponge.proofs.Parts.{cut_state}
@@ -36,14 +37,12 @@ under_is c w F d ws (suc j) n k e h =
     let r : under c w F ws j (2 * (2 ^ n + k) + 1) ≡ top j (2 * k + 1) = ap (under c w F ws j) b ∙ under_is c w F d ws j (suc n) (2 * k + 1) (omega arith) (omega arith) in
     ap (λ (t : List ℕ). two_to_one c w F t (under c w F ws j (2 * (2 ^ n + k) + 1))) l ∙ ap (λ (t : List ℕ). two_to_one c w F (top j (2 * k)) t) r
 
-root_under : (c w : ℕ) (F : List ℕ → List ℕ) (d : ℕ) (ws : List ℕ) → under c w F ws d 1 ≡ tree_value c w F d (leaf_at w (leaves_in w d ws))
+pub root_under : (c w : ℕ) (F : List ℕ → List ℕ) (d : ℕ) (ws : List ℕ) → under c w F ws d 1 ≡ tree_value c w F d (leaf_at w (leaves_in w d ws))
 root_under c w F d ws = under_is c w F d ws d 0 0 (omega arith) (omega arith)
 
 pub root_low : (d : ℕ) → d ≤ 8 → 1 < 2 ^ (9 - d)
 root_low d h = let m : 1 ≤ 9 - d = omega arith in let p : 2 ^ 1 ≤ 2 ^ (9 - d) = pow_mono m in omega arith
 
--- the root, as the program copies it out of seven words
-pub root_is : (c w : ℕ) (F : List ℕ → List ℕ) (d x : ℕ) (ws r out value : List ℕ) → r ≡ ws → x ≡ w → value ≡ take (x - 0) out → take w out ≡ under c w F r d 1 → value ≡ tree_value c w F d (leaf_at w (leaves_in w d ws))
-root_is c w F d x ws r out value er ex ev et =
-    let z : x - 0 ≡ w = omega arith in
-    ev ∙ ap (λ (n : ℕ). take n out) z ∙ et ∙ ap (λ (t : List ℕ). under c w F t d 1) er ∙ root_under c w F d ws
+-- the front of seven words has room for a digest
+pub room_of : {m c w : ℕ} {F : List ℕ → List ℕ} → Sound m c w F → (x : ℕ) → x ≡ w → length (take x (replicate {A = ℕ} 7 0)) ≡ w
+room_of s x e = simp (length-take, length-replicate) (omega (arith, s.m_small, s.c_some))

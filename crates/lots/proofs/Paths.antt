@@ -6,7 +6,7 @@ use Rattle.std.proofs.lemmas.Slice.{take-put_mid}
 use Rattle.std.proofs.lemmas.List.{append_assoc, append-nil, take_all}
 use Rattle.kinds.specs.Answers.{Answer, granted}
 use Rattle.model.specs.Trees.{sibling}
-use Rattle.model.specs.Closed.{siblings_from, closed_root_call, open_call}
+use Rattle.model.specs.Closed.{siblings_from, open_call}
 use Rattle.model.proofs.Heaps.{node_is, sibling_low, sibling_some}
 use Rattle.lots.specs.Nodes.{node_in, nodes_in, closed_in, path_in}
 
@@ -53,18 +53,11 @@ path_nodes w d ws (suc l) n h u =
     let here : node_in w ws (sibling n) ≡ get_or (nodes_in w d ws) (sibling n) [] = sym (node_is (node_in w ws) [] d (sibling n) (sibling_some n (omega arith)) (sibling_low n (2 ^ d) u)) in
     ap₂ (λ (s t : List ℕ). s ++ t) here (path_nodes w d ws l (n / 2) (omega arith) (omega arith))
 
--- the root, as the program copies it out of what it reads, r
-pub root_granted : (w d x : ℕ) (ws r out new : List ℕ) → r ≡ ws → length out ≡ x → x ≡ w → new ≡ node_in (length out) r 1 → ◌≡◌ {A = Answer × List ℕ} (granted, new) (closed_root_call w (closed_in w d ws) out)
-root_granted w d x ws r out new er ex ew e =
-    let p = pow_pos d in
-    let long : length out ≡ w = ex ∙ ew in
-    let is : new ≡ node_in w ws 1 = e ∙ ap₂ (λ (n : ℕ) (t : List ℕ). node_in n t 1) long er in
-    rw (eq-eqb (length out) w long) (ap (λ (t : List ℕ). (granted, t)) (is ∙ sym (node_is (node_in w ws) [] d 1 (omega arith) (omega arith))))
-
--- a path, as the program copies it, with p places and digests of x words
-pub open_granted : (w x d place p : ℕ) (ws r out new : List ℕ) → r ≡ ws → p ≡ 2 ^ d → x ≡ w → place < p → length out ≡ d * x → new ≡ path_in x r d (p + place) → ◌≡◌ {A = Answer × List ℕ} (granted, new) (open_call w (closed_in w d ws) place out)
-open_granted w x d place p ws r out new er ep ex hp eo e =
+-- a path, as the program copies it, with its own numbers
+pub open_granted : (w x d l place q p : ℕ) (ws out new : List ℕ) → x ≡ w → l ≡ d → q ≡ place → p ≡ 2 ^ d → q < 2 ^ d → length out ≡ l * x → new ≡ path_in x ws l (p + q)
+    → ◌≡◌ {A = Answer × List ℕ} (granted, new) (open_call w (closed_in w d ws) place out)
+open_granted w x d l place q p ws out new ex el eq ep hp eo e =
     let lp : place < 2 ^ d = omega arith in
-    let lo : length out ≡ d * w = eo ∙ ap (λ (n : ℕ). d * n) ex in
-    let is : new ≡ path_in w ws d (2 ^ d + place) = e ∙ ap₂ (λ (n : ℕ) (t : List ℕ). path_in n t d (p + place)) ex er ∙ ap (λ (n : ℕ). path_in w ws d (n + place)) ep in
+    let lo : length out ≡ d * w = eo ∙ ap₂ (λ (m n : ℕ). m * n) el ex in
+    let is : new ≡ path_in w ws d (2 ^ d + place) = rw (ex, el, eq, ep) at e in
     rw (lt-leb (2 ^ d) place lp, eq-eqb (length out) (d * w) lo) (ap (λ (t : List ℕ). (granted, t)) (is ∙ path_nodes w d ws d (2 ^ d + place) (omega arith) (omega arith)))

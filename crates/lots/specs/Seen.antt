@@ -9,8 +9,8 @@ use Rattle.lots.specs.Nodes.{leaves_in, closed_in}
 
 -- 2 ^ depth leaves, and idle stations bare
 abbrev pub seen : {K : Type 0} → ℕ → ℕ → Lot K → model.Lot
-seen c w l = record { depth = l.leaves.depth; leaves = leaves_in w l.leaves.depth (vec_items l.leaves.words); stations = all_shown c w l.stations.table }
+seen c w l = record { depth = l.leaves.depth.levels; leaves = leaves_in w l.leaves.depth.levels (vec_items l.leaves.table.words); stations = all_shown c w l.stations.table }
 
 -- the nodes from the root to the leaves
 abbrev pub seen_closed : {K : Type 0} → ℕ → ClosedLot K → Closed
-seen_closed w l = closed_in w l.nodes.depth (vec_items l.nodes.words)
+seen_closed w l = closed_in w l.nodes.depth.levels (vec_items l.nodes.table.words)

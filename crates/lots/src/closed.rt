@@ -20,7 +20,7 @@ impl<K: Kind> ClosedLot<K> {
         ensures exact { result ≡ (seen_closed K.DIGEST self.now).depth }
         ensures shallow { result ≤ 8 }
     {
-        self.nodes.depth
+        self.nodes.depth.levels()
     }
 
     // Writes the tree value.
@@ -34,6 +34,6 @@ impl<K: Kind> ClosedLot<K> {
     pub fn open(&self, place: u16, out: &mut [u64]) -> Result<(), Denial>
         ensures { (told result, out.new) ≡ open_call K.DIGEST (seen_closed K.DIGEST self.now) place out.old }
     {
-        self.nodes.open::<K>(place as usize, out)
+        self.nodes.open::<K>(place, out)
     }
 }

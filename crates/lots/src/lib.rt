@@ -2,8 +2,7 @@
 #![tactic(auto)]
 
 pub mod closed;
-pub mod growing;
-pub mod heap;
 pub mod leaves;
 pub mod lot;
 pub mod nodes;
+pub mod table;

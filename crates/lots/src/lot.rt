@@ -9,6 +9,7 @@ use crate::closed::ClosedLot;
 use crate::leaves::Leaves;
 use kinds::denial::Denial;
 use kinds::kind::Kind;
+use model::depth::Depth;
 use stations::slot::Slot;
 use stations::table::Stations;
 use std::alloc::{AllocError, Global};
@@ -26,10 +27,8 @@ impl<K: Kind> Lot<K> {
     pub fn make(&mut self, depth: u8) -> Result<(), Denial>
         ensures { (seen K.CAPACITY K.DIGEST self.new, told result, []) ≡ step K.CAPACITY K.DIGEST K.mapping (seen K.CAPACITY K.DIGEST self.old) (making depth) }
     {
-        if depth > 8 {
-            return Err(Denial::DepthTooLarge);
-        }
-        self.leaves.make(depth as usize);
+        let depth = Depth::try_from(depth)?;
+        self.leaves.make(depth);
         self.stations = Stations::new::<K>();
         Ok(())
     }
@@ -39,11 +38,8 @@ impl<K: Kind> Lot<K> {
         ensures { (seen K.CAPACITY K.DIGEST self.new, told result, []) ≡ step K.CAPACITY K.DIGEST K.mapping (seen K.CAPACITY K.DIGEST self.old) (beginning station place length) }
     {
         let slot = Slot::try_from(station)?;
-        if place as usize >= self.leaves.size() {
-            return Err(Denial::NoSuchPlace);
-        }
-        self.stations
-            .begin::<K>(slot, place as usize, length as usize)
+        let place = self.leaves.depth().admit(place)?;
+        self.stations.begin::<K>(slot, place, length as usize)
     }
 
     pub fn feed(&mut self, station: u8, word: u64) -> Result<(), Denial>
@@ -85,10 +81,8 @@ impl<K: Kind> Lot<K> {
     pub fn clear(&mut self, place: u16) -> Result<(), Denial>
         ensures { (seen K.CAPACITY K.DIGEST self.new, told result, []) ≡ step K.CAPACITY K.DIGEST K.mapping (seen K.CAPACITY K.DIGEST self.old) (clearing place) }
     {
-        if place as usize >= self.leaves.size() {
-            return Err(Denial::NoSuchPlace);
-        }
-        self.leaves.clear::<K>(place as usize);
+        let place = self.leaves.depth().admit(place)?;
+        self.leaves.clear::<K>(place);
         Ok(())
     }
 

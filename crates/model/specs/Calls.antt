@@ -20,6 +20,9 @@ pub data Call : Type 0 where
 abbrev pub History : Type 0
 History = List (Call × Answer)
 
+abbrev pub too_deep : ℕ → Cause
+too_deep depth = (nat_lt 8 depth, 1, [])
+
 abbrev pub no_station : ℕ → Cause
 no_station s = (nat_lt 7 s, 2, [])
 
@@ -29,7 +32,7 @@ no_place depth place = (nat_le (2 ^ depth) place, 3, [])
 -- the causes that a call can be refused for, in their order: by the digest size, the lot's depth, which stations are
 -- idle, and how many elements each lacks of its stated length
 abbrev pub causes : ℕ → ℕ → (ℕ → Bool) → (ℕ → ℕ) → Call → List Cause
-causes w depth idle lacks (making d) = (nat_lt 8 d, 1, []) ∷ []
+causes w depth idle lacks (making d) = too_deep d ∷ []
 causes w depth idle lacks (begin s p n) = no_station s ∷ no_place depth p ∷ bad_length n ∷ (not (idle s), 5, []) ∷ []
 causes w depth idle lacks (feed s x) = no_station s ∷ (idle s, 6, []) ∷ not_elements (x ∷ []) ∷ (nat_lt (lacks s) 1, 8, []) ∷ []
 causes w depth idle lacks (feed_eight s xs) = no_station s ∷ (idle s, 6, []) ∷ not_elements xs ∷ (nat_lt (lacks s) (length xs), 8, []) ∷ []

@@ -1,6 +1,7 @@
-// The laws of a lot over whole runs. There is no code here but the holders of the laws: the calls that keep to them
-// are in the crates above.
+// The laws of a lot over whole runs, and the depth of a tree. The calls that keep to the laws are in the crates above.
 #![tactic(auto)]
+
+pub mod depth;
 
 ghost use Rattle.model.specs.Laws.{LotLaws, ClosedLaws};
 ghost use Rattle.model.specs.Promises.{Order};

@@ -1,4 +1,4 @@
-use Rattle.lots.proofs.heap.+tree.Given as goal
+use Rattle.lots.proofs.table.Table.+tree.Given as goal
 
 abbrev pub decreases-tree : goal.decreases-tree
 decreases-tree g l = l.level
