@@ -7,7 +7,7 @@ use Rattle.kinds.specs.Kinds.{State}
 use Rattle.sponge.specs.Overlays.{overlaid}
 use Rattle.sponge.proofs.Parts.{zeros_state}
 use Rattle.lots.specs.Nodes.{node_in, leaves_in}
-use Rattle.lots.proofs.Writes.{overlaid_state, laid_here, other_node}
+use Rattle.lots.proofs.Writes.{laid_here, other_node}
 
 pub few : (d : ℕ) → d ≤ 8 → 2 ^ d ≤ 256
 few d h = let p : 2 ^ d ≤ 2 ^ 8 = pow_mono h in omega arith
@@ -56,13 +56,3 @@ leaves_zero w d h7 h8 =
 
 pub zeros_of : (n : ℕ) (xs : List ℕ) → xs ≡ replicate n 0 → State n xs
 zeros_of n xs e = rw e (zeros_state n)
-
-pub seven_zeros : (x w : ℕ) → x ≡ w → w ≤ 7 → take (x - 0) (replicate 7 0) ≡ replicate {A = ℕ} w 0
-seven_zeros x w e h = let z : x - 0 ≡ w = omega arith in rw z (take-replicate {X = ℕ} w 7 0 h)
-
--- a write at a place, as the program does it: over what it reads, r, with p places
-pub put_is : (ws r xs new : List ℕ) (p d place : ℕ) → r ≡ ws → p ≡ 2 ^ d → new ≡ overlaid r (7 * (p + place)) xs → new ≡ overlaid ws (7 * (2 ^ d + place)) xs
-put_is ws r xs new p d place er ep e = rw (er, ep) at e
-
-pub put_state : (ws xs new : List ℕ) (w d place : ℕ) → w ≤ 7 → d ≤ 8 → place < 2 ^ d → State 3584 ws → State w xs → new ≡ overlaid ws (7 * (2 ^ d + place)) xs → State 3584 new
-put_state ws xs new w d place h7 h8 hp s t e = let f = few d h8 in rw e (overlaid_state ws (7 * (2 ^ d + place)) xs s t (omega arith))
