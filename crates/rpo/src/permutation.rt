@@ -2,6 +2,7 @@
 ghost use Rattle.std.specs.Prelude.{◌≡◌, ◌+◌, ◌*◌, ◌<◌, ◌≤◌, length, take};
 ghost use Rattle.field.specs.Field.{Elements};
 ghost use Rattle.field.specs.Powers.{exponent_of};
+ghost use Rattle.rpo.specs.FirstRow.{first_row};
 ghost use Rattle.rpo.specs.Permutation.{unkeyed, half, half_back, round, round_back, permuted, reversed};
 
 use crate::matrix::{Circulant, SmallCirculant};
@@ -20,7 +21,7 @@ pub struct Rounds<'a, const M: usize> {
 impl<'a, const M: usize> Rounds<'a, M> {
     fn half(self, place: usize, power: Power, s: &mut [u64; M])
         requires { place + M ≤ length self.constants.now }
-        ensures { s.new ≡ half (take M self.entry.small.matrix.twice.now) self.entry.constants.now place (exponent_of power) s.old }
+        ensures { s.new ≡ half (first_row M self.entry.small.matrix) self.entry.constants.now place (exponent_of power) s.old }
     {
         self.small.mix(self.constants, place, s);
         raise_each(power, s);
@@ -28,7 +29,7 @@ impl<'a, const M: usize> Rounds<'a, M> {
 
     fn round(self, r: usize, s: &mut [u64; M])
         requires { r < 7 }
-        ensures { s.new ≡ round (take M self.entry.small.matrix.twice.now) self.entry.constants.now r s.old }
+        ensures { s.new ≡ round (first_row M self.entry.small.matrix) self.entry.constants.now r s.old }
     {
         self.half(2 * r * M, Power::Seven, s);
         self.half((2 * r + 1) * M, Power::D, s);
@@ -36,7 +37,7 @@ impl<'a, const M: usize> Rounds<'a, M> {
 
     // The permutation.
     pub fn permute(self, s: &mut [u64; M])
-        ensures { s.new ≡ permuted (take M self.entry.small.matrix.twice.now) self.entry.constants.now s.old }
+        ensures { s.new ≡ permuted (first_row M self.entry.small.matrix) self.entry.constants.now s.old }
     {
         for r in 0..7 {
             self.round(r, s);
@@ -69,7 +70,7 @@ impl<'a, const M: usize> RoundsBack<'a, M> {
 
     fn half_back(self, place: usize, power: Power, s: &mut [u64; M])
         requires { place + M ≤ length self.constants.now }
-        ensures { s.new ≡ half_back (take M self.entry.inverse.twice.now) self.entry.constants.now place (exponent_of power) s.old }
+        ensures { s.new ≡ half_back (first_row M self.entry.inverse) self.entry.constants.now place (exponent_of power) s.old }
     {
         raise_each(power, s);
         self.unkey(place, s);
@@ -78,7 +79,7 @@ impl<'a, const M: usize> RoundsBack<'a, M> {
 
     fn round_back(self, r: usize, s: &mut [u64; M])
         requires { r < 7 }
-        ensures { s.new ≡ round_back (take M self.entry.inverse.twice.now) self.entry.constants.now r s.old }
+        ensures { s.new ≡ round_back (first_row M self.entry.inverse) self.entry.constants.now r s.old }
     {
         self.half_back((2 * r + 1) * M, Power::Seven, s);
         self.half_back(2 * r * M, Power::D, s);
@@ -86,7 +87,7 @@ impl<'a, const M: usize> RoundsBack<'a, M> {
 
     // The reverse.
     pub fn reverse(self, s: &mut [u64; M])
-        ensures { s.new ≡ reversed (take M self.entry.inverse.twice.now) self.entry.constants.now s.old }
+        ensures { s.new ≡ reversed (first_row M self.entry.inverse) self.entry.constants.now s.old }
     {
         for r in (0..7).rev() {
             self.round_back(r, s);

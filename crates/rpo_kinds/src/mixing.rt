@@ -1,5 +1,6 @@
 // The kind that a set of parameters makes.
-ghost use Rattle.std.specs.Prelude.{◌≡◌, ◌*◌, take, length};
+ghost use Rattle.std.specs.Prelude.{◌≡◌, ◌*◌, length};
+ghost use Rattle.rpo.specs.FirstRow.{first_row};
 ghost use Rattle.rpo_kinds.specs.Constants.{constants_named};
 
 use crate::constants::RoundConstants;
@@ -48,7 +49,7 @@ impl<S: ParameterSet<M, N>, const M: usize, const N: usize> Rpo<S, M, N> {
     }
 
     fn rounds(&self) -> Rounds<'_, M>
-        ensures row { take M result.small.matrix.twice.now ≡ S.first_row }
+        ensures row { first_row M result.small.matrix ≡ S.first_row }
         ensures constants { result.constants.now ≡ constants_named S.text N }
     {
         let matrix = Circulant {
@@ -62,7 +63,7 @@ impl<S: ParameterSet<M, N>, const M: usize, const N: usize> Rpo<S, M, N> {
     }
 
     fn rounds_back(&self) -> RoundsBack<'_, M>
-        ensures row { take M result.inverse.twice.now ≡ S.inverse_row }
+        ensures row { first_row M result.inverse ≡ S.inverse_row }
         ensures constants { result.constants.now ≡ constants_named S.text N }
     {
         let inverse = Circulant {
