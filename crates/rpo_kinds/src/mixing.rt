@@ -19,7 +19,7 @@ pub struct Rpo<S: ParameterSet<M, N>, const M: usize, const N: usize> {
     ghost derived: { constants.words ≡ constants_named S.text N },
 }
 
-// A derive would ask `S` to be copied too.
+// Copying is written out, since a derive is refused beside a ghost field that names a type parameter.
 impl<S: ParameterSet<M, N>, const M: usize, const N: usize> Copy for Rpo<S, M, N> {}
 
 impl<S: ParameterSet<M, N>, const M: usize, const N: usize> Clone for Rpo<S, M, N> {
