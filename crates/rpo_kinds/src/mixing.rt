@@ -23,7 +23,7 @@ pub struct Rpo<S: ParameterSet<M, N>, const M: usize, const N: usize> {
 impl<S: ParameterSet<M, N>, const M: usize, const N: usize> Copy for Rpo<S, M, N> {}
 
 impl<S: ParameterSet<M, N>, const M: usize, const N: usize> Clone for Rpo<S, M, N> {
-    ghost is_clone = { λ x y. y.constants ≡ x.constants };
+    ghost is_clone = { λ x y. y ≡ x };
 
     ghost is_infallible = { λ _. Unit {0} };
 
