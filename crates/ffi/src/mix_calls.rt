@@ -5,20 +5,23 @@ ghost use Rattle.rpo.specs.Permutation.{permuted};
 ghost use Rattle.rpo.specs.Rows.{row_12, row_16};
 
 use keccak::keccak_f;
-use rpo::sizes::{permute_12, permute_16};
+use rpo::permutation::Rounds;
+use rpo::sizes::{matrix_12, matrix_16};
 
 #[unsafe(no_mangle)]
 pub extern "C" fn rpo128_permute(constants: &[u64; 168], state: &mut [u64; 12])
     ensures { state.new ≡ permuted row_12 constants.now state.old }
 {
-    permute_12(constants, state);
+    let small = matrix_12();
+    Rounds { small, constants }.permute(state);
 }
 
 #[unsafe(no_mangle)]
 pub extern "C" fn rpo160_permute(constants: &[u64; 224], state: &mut [u64; 16])
     ensures { state.new ≡ permuted row_16 constants.now state.old }
 {
-    permute_16(constants, state);
+    let small = matrix_16();
+    Rounds { small, constants }.permute(state);
 }
 
 #[unsafe(no_mangle)]

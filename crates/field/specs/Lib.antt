@@ -1,3 +1,4 @@
 pub mod Field
 pub mod Lanes
+pub mod Powers
 pub mod Primes

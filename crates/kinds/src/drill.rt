@@ -3,7 +3,6 @@ ghost use Rattle.kinds.specs.Kinds.{drill};
 ghost use Rattle.std.proofs.Common.{rules};
 
 use crate::kind::Kind;
-use field::arithmetic::sum;
 use field::element::Element;
 
 // The kind for drills and tests: so small that its digests can be worked out by hand.
@@ -31,12 +30,12 @@ impl Kind for Drill {
         let s0 = Element { word: state[0] };
         let s1 = Element { word: state[1] };
         let s2 = Element { word: state[2] };
-        let twice0 = sum(s0, s0);
-        let thrice0 = sum(twice0, s0);
-        let twice2 = sum(s2, s2);
-        let u = sum(s1, twice2);
-        let t = sum(u, thrice0);
-        state[0] = sum(s0, t).word;
+        let twice0 = s0 + s0;
+        let thrice0 = twice0 + s0;
+        let twice2 = s2 + s2;
+        let u = s1 + twice2;
+        let t = u + thrice0;
+        state[0] = (s0 + t).word;
         state[1] = t.word;
     }
 }

@@ -53,13 +53,6 @@ forward_state row k zero s st = st
 forward_state row k (suc n) s st =
     half_state row k ((2 * n + 1) * length row) exponent_d (half row k (2 * n * length row) 7 (forward row k n s))
 
-pub backward_state : (inverse k : List ℕ) (n : ℕ) (s : List ℕ) → State (length inverse) s → State (length inverse) (backward inverse k n s)
-unfolding backward round_back
-backward_state inverse k zero s st = st
-backward_state inverse k (suc n) s st =
-    backward_state inverse k n (round_back inverse k n s)
-    (half_back_state inverse k (2 * n * length inverse) exponent_d (half_back inverse k ((2 * n + 1) * length inverse) 7 s))
-
 off_on : (t c : ℕ) → t < p → c < p → ((t + c) % p + (p - c)) % p ≡ t
 off_on t c ht hc = omega arith
 

@@ -1,6 +1,5 @@
 -- The steps of the code come to the halves of a round, the rounds and all seven of them, and so do their reverses.
-use Rattle.std.proofs.Common.{◌≡◌, ℕ, suc, ◌+◌, ◌-◌, ◌*◌, ◌%◌, ◌^◌, ◌<◌, ◌≤◌, List, map, length, get_or, sym, ap, ◌∙◌, add-one, arith}
-use Rattle.std.proofs.lemmas.Nat.{mul-le}
+use Rattle.std.proofs.Common.{◌≡◌, ℕ, suc, ◌+◌, ◌-◌, ◌*◌, ◌%◌, ◌^◌, ◌<◌, List, map, length, get_or, sym, ap, ◌∙◌, add-one, arith}
 use Rattle.std.proofs.lemmas.List.FromFn.{fill_by_all}
 use Rattle.std.proofs.lemmas.List.{get_or-map, length-map}
 use Rattle.field.specs.Field.{p, sum_of, power_of, exponent_d}
@@ -10,7 +9,7 @@ use Rattle.kinds.specs.Kinds.{State}
 use Rattle.rpo.specs.Matrix.{made_by, times, times_at}
 use Rattle.rpo.specs.Permutation.{keyed, raised, half, half_back, round, round_back, forward, backward}
 use Rattle.rpo.proofs.Inverses.{made_at}
-use Rattle.rpo.proofs.Rounds.{times_state, keyed_state, raised_state, half_state, half_back_state}
+use Rattle.rpo.proofs.Rounds.{times_state, keyed_state, raised_state}
 
 -- t is congruent to the matrix times s and the constants, and r is t to the power e
 pub half_is : (m : ℕ) (row k : List ℕ) (place e : ℕ) (s t r : List ℕ) → length row ≡ m
@@ -46,13 +45,6 @@ pub powers_state : (m e : ℕ) (s r : List ℕ) → length s ≡ m → r ≡ map
 unfolding raised
 powers_state m e s r long is = record { long = ap length is ∙ (raised_state e s).long ∙ long; each = rw is (raised_state e s).each }
 
--- where the constants of the halves of a round stand
-pub first_half : (r m : ℕ) → r < 7 → 2 * r * m + m ≤ 14 * m
-first_half r m l = omega (arith, mul-le (2 * r + 1) m 14 m (omega arith) (omega arith))
-
-pub second_half : (r m : ℕ) → r < 7 → (2 * r + 1) * m + m ≤ 14 * m
-second_half r m l = omega (arith, mul-le (2 * r + 2) m 14 m (omega arith) (omega arith))
-
 -- a round by its halves, with m for the length of the row
 pub round_is : (m : ℕ) (row k : List ℕ) (r : ℕ) (s t u : List ℕ) → length row ≡ m → t ≡ half row k (2 * r * m) 7 s
     → u ≡ half row k ((2 * r + 1) * m) exponent_d t → u ≡ round row k r s
@@ -69,21 +61,13 @@ round_back_is m inverse k r s t u long second first =
     ∙ ap (λ n. half_back inverse k (2 * r * n) exponent_d (half_back inverse k ((2 * r + 1) * n) 7 s)) (sym long)
 
 -- one round more, and one round less to undo
-pub forward_more : (m : ℕ) (row k : List ℕ) (n : ℕ) (s t u : List ℕ) → length row ≡ m → t ≡ forward row k n s → u ≡ round row k n t
-    → (length u ≡ m) × (u ≡ forward row k (n + 1) s)
-unfolding forward round
-forward_more m row k n s t u long before is = (
-  ap length is ∙ (half_state row k ((2 * n + 1) * length row) exponent_d (half row k (2 * n * length row) 7 t)).long ∙ long,
-  is ∙ ap (round row k n) before ∙ sym (ap (λ i. forward row k i s) (add-one n)),
-)
+pub forward_more : (row k : List ℕ) (n : ℕ) (s t u : List ℕ) → t ≡ forward row k n s → u ≡ round row k n t → u ≡ forward row k (n + 1) s
+unfolding forward
+forward_more row k n s t u before is = is ∙ ap (round row k n) before ∙ sym (ap (λ i. forward row k i s) (add-one n))
 
-pub backward_less : (m : ℕ) (inverse k : List ℕ) (n : ℕ) (t u w : List ℕ) → length inverse ≡ m → 0 < n → backward inverse k n t ≡ w
-    → u ≡ round_back inverse k (n - 1) t → (length u ≡ m) × (backward inverse k (n - 1) u ≡ w)
-unfolding backward round_back
-backward_less m inverse k n t u w long pos before is =
-    let e : suc (n - 1) ≡ n = omega arith in (
-      ap length is
-          ∙ (half_back_state inverse k (2 * (n - 1) * length inverse) exponent_d (half_back inverse k ((2 * (n - 1) + 1) * length inverse) 7 t)).long
-          ∙ long,
-      ap (backward inverse k (n - 1)) is ∙ ap (λ i. backward inverse k i t) e ∙ before,
-    )
+pub backward_less : (inverse k : List ℕ) (n : ℕ) (t u w : List ℕ) → 0 < n → backward inverse k n t ≡ w → u ≡ round_back inverse k (n - 1) t
+    → backward inverse k (n - 1) u ≡ w
+unfolding backward
+backward_less inverse k n t u w pos before is =
+    let e : suc (n - 1) ≡ n = omega arith in
+    ap (backward inverse k (n - 1)) is ∙ ap (λ i. backward inverse k i t) e ∙ before

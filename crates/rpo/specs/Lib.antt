@@ -2,4 +2,4 @@ pub mod Matrix
 pub mod Permutation
 pub mod Rows
 pub mod Undo
-pub mod Powers
+pub mod FirstRow

@@ -5,17 +5,13 @@ ghost use Rattle.rpo.specs.Undo.{InverseRows, Undo, UndoBoth};
 
 // They undo one another: for any matrix and its inverse, and for both sizes, if p is prime; and for both
 // sizes outright, since it is.
-pub fn permutation_undone() -> u8
+pub fn permutation_undone()
     ensures any { Undo }
     ensures premise { Prime p → UndoBoth }
     ensures outright { UndoBoth }
-{
-    0
-}
+{}
 
 // The tables of the inverse matrices are the inverses of those of the matrices, both ways.
-pub fn inverse_rows() -> u8
+pub fn inverse_rows()
     ensures { InverseRows }
-{
-    0
-}
+{}

@@ -1,8 +1,7 @@
 #![tactic(auto)]
 
 pub mod laws;
-mod matrix;
-mod permutation;
-mod powers;
-mod rows;
+pub mod matrix;
+pub mod permutation;
+pub mod rows;
 pub mod sizes;

@@ -1,98 +1,96 @@
 // The permutation and its reverse, one text for both sizes.
 ghost use Rattle.std.specs.Prelude.{◌≡◌, ◌+◌, ◌*◌, ◌<◌, ◌≤◌, length, take};
 ghost use Rattle.field.specs.Field.{Elements};
-ghost use Rattle.rpo.specs.Matrix.{Doubled, Small};
-ghost use Rattle.rpo.specs.Powers.{exponent_of};
+ghost use Rattle.field.specs.Powers.{exponent_of};
+ghost use Rattle.rpo.specs.FirstRow.{first_row};
 ghost use Rattle.rpo.specs.Permutation.{unkeyed, half, half_back, round, round_back, permuted, reversed};
 
-use crate::matrix::{mix, transform};
-use crate::powers::{Power, raise_each};
-use field::arithmetic::difference;
+use crate::matrix::{Circulant, SmallCirculant};
 use field::element::Element;
+use field::lanes::raise_each;
+use field::power::Power;
 
-fn half<const M: usize>(
-    twice: &[u64],
-    constants: &[u64],
-    place: usize,
-    power: Power,
-    s: &mut [u64; M],
-)
-    requires sizes { (length s.old ≡ M) × (place + M ≤ length constants.now) }
-    requires matrix { (Doubled M twice.now) × (Small (take M twice.now)) }
-    ensures { s.new ≡ half (take M twice.now) constants.now place (exponent_of power) s.old }
-{
-    mix(twice, constants, place, s);
-    raise_each(power, s);
+// What the permutation goes by: a small matrix, and the constants of its seven rounds.
+#[derive(Clone, Copy)]
+pub struct Rounds<'a, const M: usize> {
+    pub small: SmallCirculant<M>,
+    pub constants: &'a [u64],
+    ghost enough: { length constants.now ≡ 14 * M },
 }
 
-fn round<const M: usize>(twice: &[u64], constants: &[u64], r: usize, s: &mut [u64; M])
-    requires sizes { (length s.old ≡ M) × ((length constants.now ≡ 14 * M) × (r < 7)) }
-    requires matrix { (Doubled M twice.now) × (Small (take M twice.now)) }
-    ensures { s.new ≡ round (take M twice.now) constants.now r s.old }
-{
-    half(twice, constants, 2 * r * M, Power::Seven, s);
-    half(twice, constants, (2 * r + 1) * M, Power::D, s);
-}
+impl<'a, const M: usize> Rounds<'a, M> {
+    fn half(self, place: usize, power: Power, s: &mut [u64; M])
+        requires { place + M ≤ length self.constants.now }
+        ensures { s.new ≡ half (first_row M self.entry.small.matrix) self.entry.constants.now place (exponent_of power) s.old }
+    {
+        self.small.mix(self.constants, place, s);
+        raise_each(power, s);
+    }
 
-// The permutation, by a small matrix.
-pub fn permute<const M: usize>(twice: &[u64], constants: &[u64], s: &mut [u64; M])
-    requires sizes { (length s.old ≡ M) × (length constants.now ≡ 14 * M) }
-    requires matrix { (Doubled M twice.now) × (Small (take M twice.now)) }
-    ensures { s.new ≡ permuted (take M twice.now) constants.now s.old }
-{
-    for r in 0..7 {
-        round(twice, constants, r, s);
+    fn round(self, r: usize, s: &mut [u64; M])
+        requires { r < 7 }
+        ensures { s.new ≡ round (first_row M self.entry.small.matrix) self.entry.constants.now r s.old }
+    {
+        self.half(2 * r * M, Power::Seven, s);
+        self.half((2 * r + 1) * M, Power::D, s);
+    }
+
+    // The permutation.
+    pub fn permute(self, s: &mut [u64; M])
+        ensures { s.new ≡ permuted (first_row M self.entry.small.matrix) self.entry.constants.now s.old }
+    {
+        for r in 0..7 {
+            self.round(r, s);
+        }
     }
 }
 
-// The constants from a place on taken off s.
-fn unkey<const M: usize>(constants: &[u64], place: usize, s: &mut [u64; M])
-    requires sizes { (length s.old ≡ M) × (place + M ≤ length constants.now) }
-    requires elements { (Elements constants.now) × (Elements s.old) }
-    ensures { s.new ≡ unkeyed constants.now place s.old }
-{
-    for i in 0..M {
-        let word = s[i];
-        let constant = constants[place + i];
-        s[i] = difference(Element { word }, Element { word: constant }).word;
+// What the reverse goes by: the inverse matrix, and the constants, which are elements, so that each can
+// be taken off.
+#[derive(Clone, Copy)]
+pub struct RoundsBack<'a, const M: usize> {
+    pub inverse: Circulant<M>,
+    pub constants: &'a [u64],
+    ghost enough: { length constants.now ≡ 14 * M },
+    ghost elements: { Elements constants.now },
+}
+
+impl<'a, const M: usize> RoundsBack<'a, M> {
+    // The constants from a place on taken off s.
+    fn unkey(self, place: usize, s: &mut [u64; M])
+        requires place { place + M ≤ length self.constants.now }
+        requires state { Elements s.old }
+        ensures { s.new ≡ unkeyed self.entry.constants.now place s.old }
+    {
+        for (i, x) in s.iter_mut().enumerate() {
+            let constant = self.constants[place + i];
+            *x = (Element { word: *x } - Element { word: constant }).word;
+        }
     }
-}
 
-fn half_back<const M: usize>(
-    twice: &[u64],
-    constants: &[u64],
-    place: usize,
-    power: Power,
-    s: &mut [u64; M],
-)
-    requires sizes { (length s.old ≡ M) × ((M ≤ 16) × (place + M ≤ length constants.now)) }
-    requires matrix { Doubled M twice.now }
-    requires elements { Elements constants.now }
-    ensures { s.new ≡ half_back (take M twice.now) constants.now place (exponent_of power) s.old }
-{
-    raise_each(power, s);
-    unkey(constants, place, s);
-    transform(twice, s);
-}
+    fn half_back(self, place: usize, power: Power, s: &mut [u64; M])
+        requires { place + M ≤ length self.constants.now }
+        ensures { s.new ≡ half_back (first_row M self.entry.inverse) self.entry.constants.now place (exponent_of power) s.old }
+    {
+        raise_each(power, s);
+        self.unkey(place, s);
+        self.inverse.transform(s);
+    }
 
-fn round_back<const M: usize>(twice: &[u64], constants: &[u64], r: usize, s: &mut [u64; M])
-    requires sizes { (length s.old ≡ M) × ((M ≤ 16) × ((length constants.now ≡ 14 * M) × (r < 7))) }
-    requires matrix { Doubled M twice.now }
-    requires elements { Elements constants.now }
-    ensures { s.new ≡ round_back (take M twice.now) constants.now r s.old }
-{
-    half_back(twice, constants, (2 * r + 1) * M, Power::Seven, s);
-    half_back(twice, constants, 2 * r * M, Power::D, s);
-}
+    fn round_back(self, r: usize, s: &mut [u64; M])
+        requires { r < 7 }
+        ensures { s.new ≡ round_back (first_row M self.entry.inverse) self.entry.constants.now r s.old }
+    {
+        self.half_back((2 * r + 1) * M, Power::Seven, s);
+        self.half_back(2 * r * M, Power::D, s);
+    }
 
-// The reverse, by the inverse matrix.
-pub fn reverse<const M: usize>(twice: &[u64], constants: &[u64], s: &mut [u64; M])
-    requires sizes { (length s.old ≡ M) × ((M ≤ 16) × (length constants.now ≡ 14 * M)) }
-    requires matrix { Doubled M twice.now }
-    requires elements { Elements constants.now }
-    ensures { s.new ≡ reversed (take M twice.now) constants.now s.old }
-{
-    for r in (0..7).rev() {
-        round_back(twice, constants, r, s);
+    // The reverse.
+    pub fn reverse(self, s: &mut [u64; M])
+        ensures { s.new ≡ reversed (first_row M self.entry.inverse) self.entry.constants.now s.old }
+    {
+        for r in (0..7).rev() {
+            self.round_back(r, s);
+        }
     }
 }

@@ -1,34 +1,33 @@
-// The permutation and its reverse at the two sizes.
-ghost use Rattle.std.specs.Prelude.{◌≡◌};
-ghost use Rattle.field.specs.Field.{Elements};
-ghost use Rattle.rpo.specs.Permutation.{permuted, reversed};
+// The matrices of the two sizes, and their inverses.
+ghost use Rattle.std.specs.Prelude.{◌≡◌, take};
+ghost use Rattle.rpo.specs.FirstRow.{first_row};
 ghost use Rattle.rpo.specs.Rows.{row_12, inverse_12, row_16, inverse_16};
 
-use crate::permutation::{permute, reverse};
+use crate::matrix::{Circulant, SmallCirculant};
 use crate::rows::{INVERSE_12, INVERSE_16, ROW_12, ROW_16};
 
-pub fn permute_12(constants: &[u64; 168], s: &mut [u64; 12])
-    ensures { s.new ≡ permuted row_12 constants.now s.old }
+pub fn matrix_12() -> SmallCirculant<12>
+    ensures { first_row 12 result.matrix ≡ row_12 }
 {
-    permute(&ROW_12, constants, s);
+    let matrix = Circulant { twice: &ROW_12 };
+    SmallCirculant { matrix }
 }
 
-pub fn reverse_12(constants: &[u64; 168], s: &mut [u64; 12])
-    requires { Elements constants.now }
-    ensures { s.new ≡ reversed inverse_12 constants.now s.old }
+pub fn inverse_matrix_12() -> Circulant<12>
+    ensures { first_row 12 result ≡ inverse_12 }
 {
-    reverse(&INVERSE_12, constants, s);
+    Circulant { twice: &INVERSE_12 }
 }
 
-pub fn permute_16(constants: &[u64; 224], s: &mut [u64; 16])
-    ensures { s.new ≡ permuted row_16 constants.now s.old }
+pub fn matrix_16() -> SmallCirculant<16>
+    ensures { first_row 16 result.matrix ≡ row_16 }
 {
-    permute(&ROW_16, constants, s);
+    let matrix = Circulant { twice: &ROW_16 };
+    SmallCirculant { matrix }
 }
 
-pub fn reverse_16(constants: &[u64; 224], s: &mut [u64; 16])
-    requires { Elements constants.now }
-    ensures { s.new ≡ reversed inverse_16 constants.now s.old }
+pub fn inverse_matrix_16() -> Circulant<16>
+    ensures { first_row 16 result ≡ inverse_16 }
 {
-    reverse(&INVERSE_16, constants, s);
+    Circulant { twice: &INVERSE_16 }
 }

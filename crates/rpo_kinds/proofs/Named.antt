@@ -1,8 +1,6 @@
 -- Named constants are elements, and the kinds that they make undo themselves.
-use Rattle.std.proofs.Common.{◌≡◌, ℕ, ◌*◌, ◌<◌, List, length, ap, ◌∙◌, arith}
-use Rattle.std.specs.List.{AllWithin}
-use Rattle.std.proofs.lemmas.List.{get_or_default}
-use Rattle.field.specs.Field.{p, Elements}
+use Rattle.std.proofs.Common.{◌≡◌, ℕ, ◌*◌, ◌<◌, List, ap, ◌∙◌, arith}
+use Rattle.field.specs.Field.{p}
 use Rattle.field.specs.Primes.{Prime}
 use Rattle.kinds.specs.Kinds.{State}
 use Rattle.shake.specs.Shake.{shake256_bytes}
@@ -24,12 +22,6 @@ pub named_are : (text out words : List ℕ) (room n : ℕ) → room ≡ 9 * n �
 unfolding constants_named
 named_are text out words room n er eo ew =
     ew ∙ ap (λ (b : List ℕ). made_by (constant_at b) n) eo ∙ ap (λ (m : ℕ). made_by (constant_at (shake256_bytes text m)) n) er
-
-pub state_below : (n : ℕ) (s : List ℕ) → State n s → AllWithin (λ x. x < 18446744069414584321) s 0 n
-state_below n s t k d l h = let in' : k < length s = omega (arith, t.long) in rw (get_or_default s k d 0 in') (t.each k in')
-
-pub below_elements : (n : ℕ) (s : List ℕ) → length s ≡ n → AllWithin (λ x. x < 18446744069414584321) s 0 n → Elements s
-below_elements n s e below k h = below k 0 (omega arith) (omega arith)
 
 pub mixings_undone : Prime p → MixingsUndone
 unfolding rpo_128 rpo_128_back rpo_160 rpo_160_back

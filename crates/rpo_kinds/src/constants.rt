@@ -1,5 +1,4 @@
-ghost use Rattle.std.specs.Prelude.{◌≡◌, ◌<◌, length};
-ghost use Rattle.std.specs.List.{AllWithin};
+ghost use Rattle.field.specs.Field.{Elements};
 
 pub mod derive;
 
@@ -7,6 +6,5 @@ pub mod derive;
 #[derive(Clone, Copy)]
 pub struct RoundConstants<const N: usize> {
     pub(crate) words: [u64; N],
-    ghost long: { length words ≡ N },
-    ghost below: { AllWithin (λ x. x < 18446744069414584321) words 0 N },
+    ghost elements: { Elements words },
 }

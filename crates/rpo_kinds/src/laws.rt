@@ -3,9 +3,7 @@ ghost use Rattle.field.specs.Primes.{Prime};
 ghost use Rattle.rpo_kinds.specs.Mappings.{MixingsUndone};
 
 // The mixing of either kind and its reverse undo one another on every state: if p is prime, and outright, since it is.
-pub fn mixings_undone() -> u8
+pub fn mixings_undone()
     ensures premise { Prime p → MixingsUndone }
     ensures outright { MixingsUndone }
-{
-    0
-}
+{}

@@ -2,6 +2,8 @@
 
 pub mod constants;
 pub mod laws;
+pub mod mixing;
+pub mod parameters;
 pub mod reversing;
 pub mod rpo128;
 pub mod rpo160;

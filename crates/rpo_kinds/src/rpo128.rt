@@ -1,34 +1,21 @@
-ghost use Rattle.std.specs.Prelude.{◌≡◌};
+ghost use Rattle.std.specs.Prelude.{◌≡◌, refl};
+ghost use Rattle.std.proofs.Common.{arith, lit<};
+ghost use Rattle.rpo.proofs.Rounds.{forward_state};
+ghost use Rattle.rpo.specs.Rows.{row_12, inverse_12};
 ghost use Rattle.rpo_kinds.specs.Constants.{constants_named};
 ghost use Rattle.rpo_kinds.specs.Mappings.{text_128, rpo_128, rpo_128_back};
-ghost use Rattle.std.proofs.Common.{arith};
-ghost use Rattle.rpo.specs.Rows.{row_12};
-ghost use Rattle.rpo.proofs.Rounds.{forward_state};
 
-use crate::constants::RoundConstants;
-use crate::reversing::Reversible;
-use kinds::kind::Kind;
-use rpo::sizes::{permute_12, reverse_12};
+use crate::mixing::Rpo;
+use crate::parameters::ParameterSet;
+use rpo::rows::{INVERSE_12, ROW_12};
 
-// RPO-128, with the round constants that its text names. No other constants can be in it.
+// The parameters of RPO-128.
 #[derive(Clone, Copy)]
-pub struct Rpo128 {
-    constants: RoundConstants<168>,
-    ghost derived: { constants.words ≡ constants_named text_128 168 },
-}
+pub struct Set128;
 
-impl Rpo128 {
-    // The kind, its constants derived.
-    pub fn new() -> Rpo128
-        ensures { result.constants.words ≡ constants_named text_128 168 }
-    {
-        let mut stream = [0u8; 1512];
-        let constants = RoundConstants::named(b"RPO(18446744069414584321,12,4,128)", &mut stream);
-        Rpo128 { constants }
-    }
-}
+pub type Rpo128 = Rpo<Set128, 12, 168>;
 
-impl Kind for Rpo128 {
+impl ParameterSet<12, 168> for Set128 {
     const NUMBER: u8 = 1;
 
     const CAPACITY: usize = 4;
@@ -41,7 +28,32 @@ impl Kind for Rpo128 {
 
     ghost DIGEST = { 4 };
 
+    ghost text = { text_128 };
+
+    ghost first_row = { row_12 };
+
+    ghost inverse_row = { inverse_12 };
+
     ghost mapping = { rpo_128 };
+
+    ghost back = { rpo_128_back };
+
+    #[tactic(auto, unfolding(crate::specs::Mappings::text_128))]
+    fn text() -> &'static [u8] {
+        b"RPO(18446744069414584321,12,4,128)"
+    }
+
+    fn row_twice() -> &'static [u64] {
+        &ROW_12
+    }
+
+    fn inverse_twice() -> &'static [u64] {
+        &INVERSE_12
+    }
+
+    ghost rows = { (refl, (refl, lit< tt)) };
+
+    ghost sizes = { (refl, refl) };
 
     ghost sound = { unfold rpo_128 in
         record {
@@ -52,22 +64,17 @@ impl Kind for Rpo128 {
           keeps = forward_state row_12 (constants_named text_128 168) 7;
         } };
 
-    fn mix(&self, state: &mut [u64]) {
-        let mut s = [0u64; 12];
-        s.copy_from_slice(state);
-        permute_12(&self.constants.words, &mut s);
-        state.copy_from_slice(&s);
-    }
+    ghost mixes = { unfold rpo_128 in λ s. refl };
+
+    ghost unmixes = { unfold rpo_128_back in λ s. refl };
 }
 
-impl Reversible for Rpo128 {
-    ghost back = { rpo_128_back };
-
-    #[tactic(auto, using(crate::proofs::Named::below_elements), unfolding(crate::specs::Mappings::rpo_128_back))]
-    fn unmix(&self, state: &mut [u64]) {
-        let mut s = [0u64; 12];
-        s.copy_from_slice(state);
-        reverse_12(&self.constants.words, &mut s);
-        state.copy_from_slice(&s);
+impl Rpo<Set128, 12, 168> {
+    // The kind, its constants derived.
+    pub fn new() -> Rpo128
+        ensures { result.constants.words ≡ constants_named text_128 168 }
+    {
+        let mut stream = [0u8; 1512];
+        Rpo::derive(&mut stream)
     }
 }

@@ -1,34 +1,21 @@
-ghost use Rattle.std.specs.Prelude.{◌≡◌};
+ghost use Rattle.std.specs.Prelude.{◌≡◌, refl};
+ghost use Rattle.std.proofs.Common.{arith, lit<};
+ghost use Rattle.rpo.proofs.Rounds.{forward_state};
+ghost use Rattle.rpo.specs.Rows.{row_16, inverse_16};
 ghost use Rattle.rpo_kinds.specs.Constants.{constants_named};
 ghost use Rattle.rpo_kinds.specs.Mappings.{text_160, rpo_160, rpo_160_back};
-ghost use Rattle.std.proofs.Common.{arith};
-ghost use Rattle.rpo.specs.Rows.{row_16};
-ghost use Rattle.rpo.proofs.Rounds.{forward_state};
 
-use crate::constants::RoundConstants;
-use crate::reversing::Reversible;
-use kinds::kind::Kind;
-use rpo::sizes::{permute_16, reverse_16};
+use crate::mixing::Rpo;
+use crate::parameters::ParameterSet;
+use rpo::rows::{INVERSE_16, ROW_16};
 
-// RPO-160, with the round constants that its text names. No other constants can be in it.
+// The parameters of RPO-160.
 #[derive(Clone, Copy)]
-pub struct Rpo160 {
-    constants: RoundConstants<224>,
-    ghost derived: { constants.words ≡ constants_named text_160 224 },
-}
+pub struct Set160;
 
-impl Rpo160 {
-    // The kind, its constants derived.
-    pub fn new() -> Rpo160
-        ensures { result.constants.words ≡ constants_named text_160 224 }
-    {
-        let mut stream = [0u8; 2016];
-        let constants = RoundConstants::named(b"RPO(18446744069414584321,16,6,160)", &mut stream);
-        Rpo160 { constants }
-    }
-}
+pub type Rpo160 = Rpo<Set160, 16, 224>;
 
-impl Kind for Rpo160 {
+impl ParameterSet<16, 224> for Set160 {
     const NUMBER: u8 = 2;
 
     const CAPACITY: usize = 6;
@@ -41,7 +28,32 @@ impl Kind for Rpo160 {
 
     ghost DIGEST = { 5 };
 
+    ghost text = { text_160 };
+
+    ghost first_row = { row_16 };
+
+    ghost inverse_row = { inverse_16 };
+
     ghost mapping = { rpo_160 };
+
+    ghost back = { rpo_160_back };
+
+    #[tactic(auto, unfolding(crate::specs::Mappings::text_160))]
+    fn text() -> &'static [u8] {
+        b"RPO(18446744069414584321,16,6,160)"
+    }
+
+    fn row_twice() -> &'static [u64] {
+        &ROW_16
+    }
+
+    fn inverse_twice() -> &'static [u64] {
+        &INVERSE_16
+    }
+
+    ghost rows = { (refl, (refl, lit< tt)) };
+
+    ghost sizes = { (refl, refl) };
 
     ghost sound = { unfold rpo_160 in
         record {
@@ -52,22 +64,17 @@ impl Kind for Rpo160 {
           keeps = forward_state row_16 (constants_named text_160 224) 7;
         } };
 
-    fn mix(&self, state: &mut [u64]) {
-        let mut s = [0u64; 16];
-        s.copy_from_slice(state);
-        permute_16(&self.constants.words, &mut s);
-        state.copy_from_slice(&s);
-    }
+    ghost mixes = { unfold rpo_160 in λ s. refl };
+
+    ghost unmixes = { unfold rpo_160_back in λ s. refl };
 }
 
-impl Reversible for Rpo160 {
-    ghost back = { rpo_160_back };
-
-    #[tactic(auto, using(crate::proofs::Named::below_elements), unfolding(crate::specs::Mappings::rpo_160_back))]
-    fn unmix(&self, state: &mut [u64]) {
-        let mut s = [0u64; 16];
-        s.copy_from_slice(state);
-        reverse_16(&self.constants.words, &mut s);
-        state.copy_from_slice(&s);
+impl Rpo<Set160, 16, 224> {
+    // The kind, its constants derived.
+    pub fn new() -> Rpo160
+        ensures { result.constants.words ≡ constants_named text_160 224 }
+    {
+        let mut stream = [0u8; 2016];
+        Rpo::derive(&mut stream)
     }
 }

@@ -26,11 +26,11 @@ fn constant(bytes: &[u8]) -> u64
 
 // A constant for each nine bytes.
 fn read<const N: usize>(bytes: &[u8], words: &mut [u64; N])
-    requires { (length bytes.now ≡ 9 * N) × (length words.old ≡ N) }
+    requires { length bytes.now ≡ 9 * N }
     ensures { words.new ≡ made_by (constant_at bytes.now) N }
 {
-    for i in 0..N {
-        words[i] = constant(&bytes[9 * i..9 * i + 9]);
+    for (i, word) in words.iter_mut().enumerate() {
+        *word = constant(&bytes[9 * i..9 * i + 9]);
     }
 }
 
