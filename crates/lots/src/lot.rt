@@ -9,6 +9,7 @@ use crate::closed::ClosedLot;
 use crate::leaves::Leaves;
 use kinds::denial::Denial;
 use kinds::kind::Kind;
+use stations::slot::Slot;
 use stations::table::Stations;
 use std::alloc::{AllocError, Global};
 
@@ -29,8 +30,7 @@ impl<K: Kind> Lot<K> {
             return Err(Denial::DepthTooLarge);
         }
         self.leaves.make(depth as usize);
-        let stations = Stations::new::<K>();
-        self.stations = stations;
+        self.stations = Stations::new::<K>();
         Ok(())
     }
 
@@ -38,66 +38,47 @@ impl<K: Kind> Lot<K> {
     pub fn begin(&mut self, station: u8, place: u16, length: u16) -> Result<(), Denial>
         ensures { (seen K.CAPACITY K.DIGEST self.new, told result, []) ≡ step K.CAPACITY K.DIGEST K.mapping (seen K.CAPACITY K.DIGEST self.old) (beginning station place length) }
     {
-        if station > 7 {
-            return Err(Denial::NoSuchStation);
-        }
+        let slot = Slot::try_from(station)?;
         if place as usize >= self.leaves.size() {
             return Err(Denial::NoSuchPlace);
         }
         self.stations
-            .begin::<K>(station as usize, place as usize, length as usize)
+            .begin::<K>(slot, place as usize, length as usize)
     }
 
     pub fn feed(&mut self, station: u8, word: u64) -> Result<(), Denial>
         ensures { (seen K.CAPACITY K.DIGEST self.new, told result, []) ≡ step K.CAPACITY K.DIGEST K.mapping (seen K.CAPACITY K.DIGEST self.old) (feeding station word) }
     {
-        if station > 7 {
-            return Err(Denial::NoSuchStation);
-        }
-        self.stations.feed(station as usize, &self.kind, word)
+        let slot = Slot::try_from(station)?;
+        self.stations.feed(slot, &self.kind, word)
     }
 
     // Eight words, all or none.
     pub fn feed_eight(&mut self, station: u8, words: &[u64; 8]) -> Result<(), Denial>
         ensures { (seen K.CAPACITY K.DIGEST self.new, told result, []) ≡ step K.CAPACITY K.DIGEST K.mapping (seen K.CAPACITY K.DIGEST self.old) (feeding_eight station words.now) }
     {
-        if station > 7 {
-            return Err(Denial::NoSuchStation);
-        }
-        self.stations
-            .feed_eight(station as usize, &self.kind, words)
-    }
-
-    // As `seal`, with room for the digest.
-    fn seal_in(&mut self, station: u8, digest: &mut [u64]) -> Result<(), Denial>
-        requires { (station < 8) × (long digest.old ≡ K.DIGEST) }
-        ensures { (seen K.CAPACITY K.DIGEST self.new, told result, []) ≡ step K.CAPACITY K.DIGEST K.mapping (seen K.CAPACITY K.DIGEST self.old) (sealing station) }
-    {
-        let place = self.stations.seal(station as usize, &self.kind, digest)?;
-        self.leaves.store::<K>(place, digest);
-        Ok(())
+        let slot = Slot::try_from(station)?;
+        self.stations.feed_eight(slot, &self.kind, words)
     }
 
     // Puts the digest of the record in hand at its place.
     pub fn seal(&mut self, station: u8) -> Result<(), Denial>
         ensures { (seen K.CAPACITY K.DIGEST self.new, told result, []) ≡ step K.CAPACITY K.DIGEST K.mapping (seen K.CAPACITY K.DIGEST self.old) (sealing station) }
     {
-        if station > 7 {
-            return Err(Denial::NoSuchStation);
-        }
-        let w = K::DIGEST;
-        let mut digest = [0u64; 7];
-        self.seal_in(station, &mut digest[0..w])
+        let slot = Slot::try_from(station)?;
+        let mut words = [0u64; 7];
+        let digest = &mut words[..K::DIGEST];
+        let place = self.stations.seal(slot, &self.kind, digest)?;
+        self.leaves.store::<K>(place, digest);
+        Ok(())
     }
 
     // Drops the record in hand.
     pub fn abandon(&mut self, station: u8) -> Result<(), Denial>
         ensures { (seen K.CAPACITY K.DIGEST self.new, told result, []) ≡ step K.CAPACITY K.DIGEST K.mapping (seen K.CAPACITY K.DIGEST self.old) (abandoning station) }
     {
-        if station > 7 {
-            return Err(Denial::NoSuchStation);
-        }
-        self.stations.abandon::<K>(station as usize)
+        let slot = Slot::try_from(station)?;
+        self.stations.abandon::<K>(slot)
     }
 
     // Empties a place.

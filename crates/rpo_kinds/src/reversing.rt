@@ -5,7 +5,7 @@ ghost use Rattle.kinds.specs.Permuting.{permute_call};
 
 use kinds::denial::Denial;
 use kinds::kind::Kind;
-use kinds::words::first_bad;
+use kinds::permuting::admit_state;
 
 // A kind whose mixing can be taken back.
 pub trait Reversible: Kind {
@@ -21,13 +21,7 @@ pub trait Reversible: Kind {
 pub fn reverse<K: Reversible>(kind: &K, state: &mut [u64]) -> Result<(), Denial>
     ensures { (told result, state.new) ≡ permute_call (K.CAPACITY + 2 * K.DIGEST) K.back state.old }
 {
-    if state.len() != K::state_len() {
-        return Err(Denial::BadBuffer);
-    }
-    let bad = first_bad(state);
-    if bad < state.len() {
-        return Err(Denial::NotElement(bad));
-    }
+    admit_state(K::state_len(), state)?;
     kind.unmix(state);
     Ok(())
 }

@@ -8,7 +8,7 @@ use crate::sponge::Sponge;
 use field::element::Element;
 use kinds::denial::Denial;
 use kinds::kind::Kind;
-use kinds::words::first_bad;
+use kinds::words::admit;
 
 // The longest record, in elements.
 pub const LONGEST: usize = 4096;
@@ -45,10 +45,7 @@ pub fn digest<K: Kind>(kind: &K, words: &[u64], out: &mut [u64]) -> Result<(), D
     if out.len() != K::DIGEST {
         return Err(Denial::BadBuffer);
     }
-    let bad = first_bad(words);
-    if bad < words.len() {
-        return Err(Denial::NotElement(bad));
-    }
+    admit(0, words)?;
     digest_elements(kind, words, out);
     Ok(())
 }

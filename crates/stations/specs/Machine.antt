@@ -28,15 +28,15 @@ called causes new h = (if_granted (answer causes) new h, answer causes)
 abbrev pub begin_causes : Station → ℕ → List Cause
 begin_causes h n = bad_length n ∷ (not (is_idle h), 5, []) ∷ []
 
-abbrev pub begin_step : ℕ → ℕ → (List ℕ → List ℕ) → Station → ℕ → ℕ → Station × Answer
-begin_step c w F h p n = called (begin_causes h n) (begun_for c w F p n) h
+abbrev pub begin_step : ℕ → ℕ → (List ℕ → List ℕ) → ℕ → ℕ → Station → Station × Answer
+begin_step c w F p n h = called (begin_causes h n) (begun_for c w F p n) h
 
 -- refusals 6, 7, 8
 abbrev pub feed_causes : Station → List ℕ → List Cause
 feed_causes h xs = (is_idle h, 6, []) ∷ not_elements xs ∷ (nat_lt (lacks h) (length xs), 8, []) ∷ []
 
-abbrev pub feed_step : ℕ → ℕ → (List ℕ → List ℕ) → Station → List ℕ → Station × Answer
-feed_step c w F h xs = called (feed_causes h xs) (fed_with c w F h xs) h
+abbrev pub feed_step : ℕ → ℕ → (List ℕ → List ℕ) → List ℕ → Station → Station × Answer
+feed_step c w F xs h = called (feed_causes h xs) (fed_with c w F h xs) h
 
 -- refusals 6, 9
 abbrev pub seal_causes : Station → List Cause

@@ -3,12 +3,7 @@ use Rattle.std.specs.Prelude.{ℕ, List, map, slice_index_or, slice_set}
 use Rattle.kinds.specs.Answers.{Answer}
 use Rattle.model.specs.Lots.{Station, idle}
 use Rattle.stations.specs.declared.station.Station as program
-use Rattle.stations.specs.declared.table.Stations.{Stations}
 use Rattle.stations.specs.Machine.{shown}
-
--- the table with one put in a place
-abbrev pub put : {S : Type 0} → Stations S → ℕ → S → Stations S
-put t i s = record { table = slice_set t.table i s }
 
 abbrev pub all_shown : ℕ → ℕ → List program.Station → List Station
 all_shown c w t = map (shown c w) t

@@ -2,5 +2,6 @@
 #![tactic(auto)]
 
 pub mod phase;
+pub mod slot;
 pub mod station;
 pub mod table;

@@ -12,7 +12,7 @@ use crate::station::Station;
 use field::element::{Element, P};
 use kinds::denial::Denial;
 use kinds::kind::Kind;
-use kinds::words::first_bad;
+use kinds::words::admit;
 use sponge::digest::{LONGEST, start_for};
 use sponge::sponge::Sponge;
 
@@ -40,7 +40,7 @@ impl Station {
     }
 
     pub(crate) fn begin<K: Kind>(&mut self, place: usize, length: usize) -> Result<(), Denial>
-        ensures { (shown K.CAPACITY K.DIGEST self.new, told result) ≡ begin_step K.CAPACITY K.DIGEST K.mapping (shown K.CAPACITY K.DIGEST self.old) place length }
+        ensures { (shown K.CAPACITY K.DIGEST self.new, told result) ≡ begin_step K.CAPACITY K.DIGEST K.mapping place length (shown K.CAPACITY K.DIGEST self.old) }
     {
         if length == 0 || length > LONGEST {
             return Err(Denial::BadLength);
@@ -60,7 +60,7 @@ impl Station {
     }
 
     pub(crate) fn feed<K: Kind>(&mut self, kind: &K, word: u64) -> Result<(), Denial>
-        ensures { (shown K.CAPACITY K.DIGEST self.new, told result) ≡ feed_step K.CAPACITY K.DIGEST K.mapping (shown K.CAPACITY K.DIGEST self.old) (word ∷ []) }
+        ensures { (shown K.CAPACITY K.DIGEST self.new, told result) ≡ feed_step K.CAPACITY K.DIGEST K.mapping (word ∷ []) (shown K.CAPACITY K.DIGEST self.old) }
     {
         match self.phase {
             Phase::Idle => Err(Denial::StationIdle),
@@ -76,21 +76,19 @@ impl Station {
 
     // Eight words, all or none.
     pub(crate) fn feed_eight<K: Kind>(&mut self, kind: &K, words: &[u64; 8]) -> Result<(), Denial>
-        ensures { (shown K.CAPACITY K.DIGEST self.new, told result) ≡ feed_step K.CAPACITY K.DIGEST K.mapping (shown K.CAPACITY K.DIGEST self.old) words.now }
+        ensures { (shown K.CAPACITY K.DIGEST self.new, told result) ≡ feed_step K.CAPACITY K.DIGEST K.mapping words.now (shown K.CAPACITY K.DIGEST self.old) }
     {
-        let bad = first_bad(words);
+        if let Phase::Idle = self.phase {
+            return Err(Denial::StationIdle);
+        }
+        admit(0, words)?;
         match self.phase {
-            Phase::Idle => Err(Denial::StationIdle),
-            _ if bad < 8 => Err(Denial::NotElement(bad)),
-            Phase::Filling { place, length, got } => {
-                if length - got < 8 {
-                    return Err(Denial::RecordFull);
-                }
+            Phase::Filling { place, length, got } if length - got >= 8 => {
                 self.sponge.absorb_all(kind, words);
                 self.phase = phase_at(place, length, got + 8);
                 Ok(())
             }
-            Phase::Full { .. } => Err(Denial::RecordFull),
+            _ => Err(Denial::RecordFull),
         }
     }
 

@@ -1,8 +1,15 @@
-use Rattle.std.proofs.Common.{◌+◌, ◌*◌}
-use Rattle.sponge.proofs.Pairs.{front_zeros}
+use Rattle.sponge.proofs.Pairs.{laid_state, laid_hash}
 use Rattle.sponge.proofs.pair.compress.Goals as goal
 
-pub compress_in-requires : goal.compress_in-requires
-compress_in-requires g c =
+pub mix-requires : goal.mix-requires
+mix-requires g c =
     let k = g.K.Kind in
-    record { a = c.requires.a; b = c.requires.b; out = c.requires.out; zeros = front_zeros c.state_len-m.result (k.CAPACITY + 2 * k.DIGEST) c.state_len-m.ensures g.met.K.Kind.sound.m_small }
+    laid_state k.CAPACITY k.DIGEST c.state_len.result c.CAPACITY.result c.DIGEST.result c.CAPACITY-2.result c.split_at_mut-front.result.0.now c.args.a.now c.args.b.now c.copy_from_slice.new.self c.copy_from_slice-2.new.self
+    c.CAPACITY.ensures c.DIGEST.ensures c.CAPACITY-2.ensures c.state_len.ensures g.met.K.Kind.sound.m_small c.split_at_mut-front.ensures.front c.copy_from_slice.ensures.after c.copy_from_slice-2.ensures.after c.requires.a c.requires.b
+
+pub returns : goal.returns
+returns g c =
+    let k = g.K.Kind in
+    laid_hash k.CAPACITY k.DIGEST c.state_len.result c.CAPACITY.result c.DIGEST.result c.CAPACITY-2.result c.split_at_mut-front.result.0.now c.args.a.now c.args.b.now c.copy_from_slice.new.self c.copy_from_slice-2.new.self
+    c.CAPACITY.ensures c.DIGEST.ensures c.CAPACITY-2.ensures c.state_len.ensures g.met.K.Kind.sound.m_small c.split_at_mut-front.ensures.front c.copy_from_slice.ensures.after c.copy_from_slice-2.ensures.after
+    c.DIGEST-2.result c.CAPACITY-3.result c.mix.new.state _ g.met.K.Kind.sound c.requires.a c.requires.b c.DIGEST-2.ensures c.CAPACITY-3.ensures c.mix.ensures c.copy_from_slice-3.ensures.after

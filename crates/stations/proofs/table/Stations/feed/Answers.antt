@@ -1,4 +1,4 @@
-use Rattle.std.proofs.Common.{[], ◌∷◌}
+use Rattle.std.proofs.Common.{[], ◌∷◌, length, ◌<◌, rules}
 use Rattle.kinds.specs.Denials.{told}
 use Rattle.stations.specs.Machine.{feed_step}
 use Rattle.stations.proofs.One.{one_called}
@@ -7,4 +7,5 @@ use Rattle.stations.proofs.table.Stations.feed.Goals as goal
 pub returns : goal.returns
 returns g c =
     let k = g.K.Kind in
-    one_called k.CAPACITY k.DIGEST c.args.i c.args.self.now.table c.station.result.now c.station.ensures.value c.requires c.feed.new.self (told c.feed.result) (λ h. feed_step k.CAPACITY k.DIGEST k.mapping h (c.args.word ∷ [])) c.feed.ensures
+    let low : c.index.result < length c.args.self.now.table = search rules in
+    rw (← c.index.ensures.exact) (one_called k.CAPACITY k.DIGEST c.index.result c.args.self.now.table _ _ (told c.feed.result) (feed_step k.CAPACITY k.DIGEST k.mapping (c.args.word ∷ [])) low c.feed.ensures)
