@@ -1,21 +1,12 @@
 -- What the steps of a climb come to.
-use Rattle.std.proofs.Common.{◌≡◌, ℕ, suc, ◌+◌, ◌*◌, ◌<◌, ◌≤◌, Bool, List, [], ◌++◌, length, take, drop, refl, sym, ap, ⊎_elim, ◌∙◌, mul-le-mul_right, suc-mul, add-one, arith}
-use Rattle.std.proofs.lemmas.List.{length-append, length-drop, length-take-le, drop-drop, take_at, drop_at, drop_all, append-nil}
+use Rattle.std.proofs.Common.{◌≡◌, ℕ, suc, ◌+◌, ◌*◌, ◌<◌, ◌≤◌, Bool, List, ◌++◌, length, take, drop, refl, sym, ap, ⊎_elim, ◌∙◌, mul-le-mul_right, suc-mul, add-one, arith}
+use Rattle.std.proofs.lemmas.List.{length-append, length-drop, length-take-le, drop-drop, take_at, drop_at}
 use Rattle.std.proofs.lemmas.Bool.{cases_lt}
 use Rattle.std.proofs.lemmas.Slice.{take-put_mid}
 use borrow.Rule.Slice.PartMut.{put_mid}
 use Rattle.kinds.specs.Kinds.{State, Sound}
-use Rattle.sponge.specs.Overlays.{overlaid}
 use Rattle.openings.specs.Opening.{is_right, part_at, paired, flat, hash_of, own_at, pair_at, pairs_below, Ready}
 use Rattle.openings.proofs.Digests.{own_state, part_state, paired_digests, flat_state}
-
-pub both_laid : (s t u a b : List ℕ) → length s ≡ length a + length b → t ≡ overlaid s 0 a → u ≡ overlaid t (length a) b → u ≡ a ++ b
-both_laid s t u a b n et eu =
-    let first : t ≡ a ++ drop (0 + length a) s = et in
-    let front : take (length a) t ≡ a = ap (take (length a)) first ∙ take_at a _ (length a) refl in
-    let m : length t ≡ length a + length b = ap length first ∙ length-append a (drop (0 + length a) s) ∙ (let d = length-drop (0 + length a) s in omega arith) in
-    let gone : drop (length a + length b) t ≡ [] = drop_all (length a + length b) t (omega arith) in
-    eu ∙ rw (front, gone, append-nil b)
 
 -- parts of one length in a row
 pub within : (k depth level at n : ℕ) → at ≡ level * k → n ≡ depth * k → level < depth → at + k ≤ n

@@ -1,16 +1,15 @@
 // Words of claims, roots and paths, as they come from outside.
-ghost use Rattle.std.specs.Prelude.{◌≡◌, ℕ, ◌+◌, ◌≤◌, List, leb, ◌++◌, ◌∷◌, [], length};
-ghost use Rattle.std.specs.List.{flat_map, position};
-ghost use Rattle.field.specs.Field.{p};
+ghost use Rattle.std.specs.Prelude.{◌≡◌, ◌+◌, ◌≤◌, [], ◌∷◌, ◌++◌, length};
+ghost use Rattle.std.specs.List.{flat_map};
+ghost use Rattle.std.specs.Option.{option_map};
 ghost use Rattle.kinds.specs.Answers.{answer};
 ghost use Rattle.kinds.specs.Denials.{told};
-ghost use Rattle.std.specs.Option.{option_map};
 ghost use Rattle.kinds.specs.Words.{not_elements};
 ghost use Rattle.openings.specs.Opening.{words_of};
 ghost use Rattle.openings.specs.Checks.{bad_claim};
 
-use field::element::P;
 use kinds::denial::Denial;
+use kinds::words::admit;
 use sponge::digest::LONGEST;
 
 // The words of a claim.
@@ -27,13 +26,6 @@ pub fn is_bad_claim(claim: Option<&[u64]>) -> bool
     claim.is_some_and(|words| words.is_empty() || words.len() > LONGEST)
 }
 
-// The index of the first word that is no element.
-fn first_bad(words: &[u64]) -> Option<usize>
-    ensures { result ≡ position (λ x. leb p x) words.now }
-{
-    words.iter().position(|x| *x >= P)
-}
-
 // Refusal 7; the index is counted through all parts in a row.
 pub fn admit_words(parts: &[&[u64]]) -> Result<(), Denial>
     requires { length (flat_map (λ x. x.now) parts.now) ≤ 65536 }
@@ -41,9 +33,7 @@ pub fn admit_words(parts: &[&[u64]]) -> Result<(), Denial>
 {
     let mut before = 0;
     for part in parts {
-        if let Some(i) = first_bad(part) {
-            return Err(Denial::NotElement(before + i));
-        }
+        admit(before, part)?;
         before += part.len();
     }
     Ok(())
