@@ -41,14 +41,12 @@ fn find_admitted<K: Kind>(
     requires { answer (handed_causes K.DIGEST site.root.now site.depth site.place (option_map (λ x. x.now) first.claim) first.path.now (option_map (λ x. x.now) second.claim) second.path.now out.old) ≡ granted }
     ensures { (told result, shown result, out.new) ≡ judged_call K.CAPACITY K.DIGEST K.mapping site.entry.root.now site.entry.depth site.entry.place (option_map (λ x. x.now) first.entry.claim) first.entry.path.now (option_map (λ x. x.now) second.entry.claim) second.entry.path.now out.old }
 {
-    let w = K::DIGEST;
     let k = K::rate();
     let n = site.depth * k;
-    let mut own = [0u64; 16];
     let mut ones = [0u64; 128];
     let mut twos = [0u64; 128];
-    let one = reach(kind, site, first, &mut own[..w], &mut ones[..n]);
-    let two = reach(kind, site, second, &mut own[..w], &mut twos[..n]);
+    let one = reach(kind, site, first, &mut ones[..n]);
+    let two = reach(kind, site, second, &mut twos[..n]);
     judge(one, two, first == second)?;
     Ok(show_highest(k, site.depth, &ones[..n], &twos[..n], first, second, out))
 }

@@ -56,18 +56,18 @@ pairs_fit {n} {c} {w} sound depth rate d e =
     omega arith
 
 -- the front of 16 words that is one digest's, and the front of 128 words that is all pairs'
-module _ {n c w : ℕ} {F : List ℕ → List ℕ} (sound : Sound n c w F) (wi : ℕ) (ew : wi ≡ w) where
-  pub own_front : length (take wi (replicate {A = ℕ} 16 0)) ≡ w
-  own_front = front_long wi w (replicate 16 0) ew (let m = sound.m_small in omega arith)
+module _ {n c w : ℕ} {F : List ℕ → List ℕ} (sound : Sound n c w F) where
+  pub own_front : (wi : ℕ) → wi ≡ w → length (take wi (replicate {A = ℕ} 16 0)) ≡ w
+  own_front wi ew = front_long wi w (replicate 16 0) ew (let m = sound.m_small in omega arith)
 
   pub pairs_front : (depth rate : ℕ) → depth ≤ 8 → rate ≡ 2 * w → length (take (depth * rate) (replicate {A = ℕ} 128 0)) ≡ depth * (2 * w)
   pairs_front depth rate d e =
       front_long (depth * rate) (depth * rate) (replicate 128 0) refl (pairs_fit sound depth rate d e) ∙ ap (λ (k : ℕ). depth * k) e
 
 -- an opening that is admitted can be climbed
-pub ready_for : (w : ℕ) (root : List ℕ) (depth : ℕ) (claim : Option (List ℕ)) (path : List ℕ) (room rooms : ℕ) → room ≡ w → rooms ≡ depth * (2 * w) → Fine w root depth claim path → Ready w depth (words_of claim) path room rooms
-ready_for w root depth claim path room rooms own pairs fine =
-    record { shallow = fine.shallow; each = fine.each; long = fine.long; path_each = fine.path_each; own_long = own; pairs_long = pairs }
+pub ready_for : (w : ℕ) (root : List ℕ) (depth : ℕ) (claim : Option (List ℕ)) (path : List ℕ) (rooms : ℕ) → rooms ≡ depth * (2 * w) → Fine w root depth claim path → Ready w depth (words_of claim) path rooms
+ready_for w root depth claim path rooms pairs fine =
+    record { shallow = fine.shallow; each = fine.each; long = fine.long; path_each = fine.path_each; pairs_long = pairs }
 
 -- an opening whose lengths and then words are admitted
 module _ (w : ℕ) (root : List ℕ) (depth place : ℕ) (claim : Option (List ℕ)) (path : List ℕ) where

@@ -48,9 +48,9 @@ pub own_more : (c w : ℕ) (F : List ℕ → List ℕ) (place : ℕ) (bottom pat
     sibling ≡ part_at w level path → next ≡ hash_of c w F (paired r own sibling) → next ≡ own_at c w F place bottom path (level + 1)
 own_more c w F place bottom path own next sibling level r er eo es en = rw (add-one level, en, es, er, eo)
 
-module _ {n c w : ℕ} {F : List ℕ → List ℕ} (sound : Sound n c w F) (place depth : ℕ) (bottom path : List ℕ) (rooms : ℕ) (ready : Ready w depth bottom path (length bottom) rooms) where
+module _ {n c w : ℕ} {F : List ℕ → List ℕ} (sound : Sound n c w F) (place depth : ℕ) (bottom path : List ℕ) (rooms : ℕ) (ready : Ready w depth bottom path rooms) (own_long : length bottom ≡ w) where
   pub own_now : (own : List ℕ) (level : ℕ) → own ≡ own_at c w F place bottom path level → level ≤ depth → State w own
-  own_now own level e h = rw e (own_state sound place depth bottom path (record { long = ready.own_long; each = ready.each }) ready.long ready.path_each level h)
+  own_now own level e h = rw e (own_state sound place depth bottom path (record { long = own_long; each = ready.each }) ready.long ready.path_each level h)
 
   pub part_now : (level : ℕ) (sibling tail : List ℕ) → Cut w depth level path sibling tail → State w sibling
   part_now level sibling tail cut = rw cut.here (part_state w depth level path ready.long ready.path_each cut.below)

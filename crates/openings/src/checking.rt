@@ -28,11 +28,9 @@ pub fn check<'a, K: Kind>(
         place: place as usize,
     };
     let opening = Opening { claim, path };
-    let w = K::DIGEST;
-    site.admit(w, &[opening])?;
+    site.admit(K::DIGEST, &[opening])?;
     admit_words(&[root, words_of(claim), path])?;
     let n = site.depth * K::rate();
-    let mut own = [0u64; 16];
     let mut pairs = [0u64; 128];
-    Ok(reach(kind, site, opening, &mut own[..w], &mut pairs[..n]))
+    Ok(reach(kind, site, opening, &mut pairs[..n]))
 }

@@ -45,7 +45,8 @@ fn step<K: Kind>(kind: &K, right: bool, own: &mut [u64], sibling: &[u64], pair: 
 
 // From the leaf to the top, one hash for each level.
 fn climb<K: Kind>(kind: &K, site: Site<'_>, path: &[u64], own: &mut [u64], pairs: &mut [u64])
-    requires { Ready K.DIGEST site.depth own.old path.now (length own.old) (length pairs.old) }
+    requires ready { Ready K.DIGEST site.depth own.old path.now (length pairs.old) }
+    requires room { length own.old ≡ K.DIGEST }
     ensures own { own.new ≡ own_at K.CAPACITY K.DIGEST K.mapping site.entry.place own.old path.now site.entry.depth }
     ensures pairs { pairs.new ≡ pairs_below K.CAPACITY K.DIGEST K.mapping site.entry.place own.old path.now site.entry.depth }
 {
@@ -63,17 +64,13 @@ fn climb<K: Kind>(kind: &K, site: Site<'_>, path: &[u64], own: &mut [u64], pairs
 }
 
 // Whether an opening that is known to be one comes to the root; its pairs are left in `pairs`.
-pub fn reach<K: Kind>(
-    kind: &K,
-    site: Site<'_>,
-    opening: Opening<'_>,
-    own: &mut [u64],
-    pairs: &mut [u64],
-) -> bool
-    requires { Ready K.DIGEST site.depth (words_of (option_map (λ x. x.now) opening.claim)) opening.path.now (length own.old) (length pairs.old) }
+pub fn reach<K: Kind>(kind: &K, site: Site<'_>, opening: Opening<'_>, pairs: &mut [u64]) -> bool
+    requires { Ready K.DIGEST site.depth (words_of (option_map (λ x. x.now) opening.claim)) opening.path.now (length pairs.old) }
     ensures answer { result ≡ reaches K.CAPACITY K.DIGEST K.mapping site.entry.root.now site.entry.depth site.entry.place (option_map (λ x. x.now) opening.entry.claim) opening.entry.path.now }
     ensures pairs { pairs.new ≡ pairs_below K.CAPACITY K.DIGEST K.mapping site.entry.place (leaf K.CAPACITY K.DIGEST K.mapping (option_map (λ x. x.now) opening.entry.claim)) opening.entry.path.now site.entry.depth }
 {
+    let mut words = [0u64; 16];
+    let own = &mut words[..K::DIGEST];
     leaf_of(kind, opening.claim, own);
     climb(kind, site, opening.path, own, pairs);
     &*own == site.root

@@ -1,7 +1,7 @@
-use Rattle.std.proofs.Common.{◌≡◌, ℕ, ◌*◌, ◌++◌, List, length, take, drop, replicate, ◌∙◌, refl, sym, ap, rules}
+use Rattle.std.proofs.Common.{◌≡◌, ℕ, ◌*◌, ◌++◌, List, length, take, drop, replicate, ◌∙◌, refl, rules}
 use Rattle.std.specs.Option.{option_map}
 use Rattle.std.proofs.lemmas.List.{take_at}
-use Rattle.openings.proofs.Admitted.{own_front, pairs_front, pairs_fit, ready_for}
+use Rattle.openings.proofs.Admitted.{pairs_front, pairs_fit, ready_for}
 use Rattle.openings.proofs.Steps.{front_long}
 use Rattle.finder.specs.Findings.{Shown, shown_by, alike, shows}
 use Rattle.openings.specs.Opening.{part_at}
@@ -12,24 +12,18 @@ use Rattle.finder.proofs.finding.find_admitted.Goals as goal
 pub reach-one-requires : goal.reach-one-requires
 reach-one-requires g c =
     let w = g.K.Kind.DIGEST in
-    let s = g.met.K.Kind.sound in
     let claim1 = option_map (λ x. x.now) c.args.first.claim in
     let claim2 = option_map (λ x. x.now) c.args.second.claim in
     let f = granted_fine w c.args.site.root.now c.args.site.depth c.args.site.place claim1 c.args.first.path.now claim2 c.args.second.path.now c.args.out.now c.requires in
-    ready_for w c.args.site.root.now c.args.site.depth claim1 c.args.first.path.now _ _ (own_front s c.DIGEST-w.result c.DIGEST-w.ensures) (pairs_front s c.DIGEST-w.result c.DIGEST-w.ensures c.args.site.depth c.rate-k.result f.one.shallow c.rate-k.ensures) f.one
+    ready_for w c.args.site.root.now c.args.site.depth claim1 c.args.first.path.now _ (pairs_front g.met.K.Kind.sound c.args.site.depth c.rate-k.result f.one.shallow c.rate-k.ensures) f.one
 
 pub reach-two-requires : goal.reach-two-requires
 reach-two-requires g c =
     let w = g.K.Kind.DIGEST in
-    let s = g.met.K.Kind.sound in
     let claim1 = option_map (λ x. x.now) c.args.first.claim in
     let claim2 = option_map (λ x. x.now) c.args.second.claim in
     let f = granted_fine w c.args.site.root.now c.args.site.depth c.args.site.place claim1 c.args.first.path.now claim2 c.args.second.path.now c.args.out.now c.requires in
-    let own = own_front s c.DIGEST-w.result c.DIGEST-w.ensures in
-    let long : length c.reach-one.new.own ≡ w = c.reach-one.auto.own ∙ own in
-    let again : length (take c.DIGEST-w.result (c.reach-one.new.own ++ drop c.DIGEST-w.result (replicate {A = ℕ} 16 0))) ≡ w =
-    ap length (take_at c.reach-one.new.own _ c.DIGEST-w.result (long ∙ sym c.DIGEST-w.ensures)) ∙ long in
-    ready_for w c.args.site.root.now c.args.site.depth claim2 c.args.second.path.now _ _ again (pairs_front s c.DIGEST-w.result c.DIGEST-w.ensures c.args.site.depth c.rate-k.result f.one.shallow c.rate-k.ensures) f.two
+    ready_for w c.args.site.root.now c.args.site.depth claim2 c.args.second.path.now _ (pairs_front g.met.K.Kind.sound c.args.site.depth c.rate-k.result f.one.shallow c.rate-k.ensures) f.two
 
 pub returns : goal.returns
 returns g c =
