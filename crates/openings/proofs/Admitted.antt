@@ -1,5 +1,5 @@
 -- What an opening that is admitted has.
-use Rattle.std.proofs.Common.{◌≡◌, ℕ, ◌*◌, ◌≤◌, Bool, true, false, not, eqb, List, [], ◌∷◌, ◌++◌, length, take, replicate, Some, None, Option, sym, refl, ap, ◌∙◌, mul-le-mul, arith}
+use Rattle.std.proofs.Common.{◌≡◌, ℕ, ◌*◌, ◌≤◌, Bool, true, false, not, eqb, List, [], ◌∷◌, ◌++◌, length, take, replicate, Option, sym, refl, ap, ◌∙◌, mul-le-mul, arith}
 use Rattle.std.proofs.lemmas.Bool.{ltb-false, eqb-true}
 use Rattle.field.specs.Field.{Elements}
 use Rattle.kinds.specs.Kinds.{Sound}
@@ -9,7 +9,7 @@ use Rattle.model.specs.Calls.{no_place}
 use Rattle.openings.proofs.Causes.{answer_past}
 use Rattle.std.proofs.lemmas.List.{append-nil}
 use Rattle.kinds.specs.Permuting.{bad_buffer}
-use Rattle.model.proofs.Causes.{none_there, all_elements, good_length}
+use Rattle.model.proofs.Causes.{none_there, all_elements}
 use Rattle.openings.specs.Opening.{words_of, Ready}
 use Rattle.openings.specs.Checks.{too_deep, bad_claim, check_causes, check_answer}
 use Rattle.openings.proofs.Tests.{each_left, each_right}
@@ -21,10 +21,6 @@ not_false false e = sym e
 
 pub right_buffer : (n : ℕ) (s : List ℕ) → (bad_buffer n s).0 ≡ false → length s ≡ n
 right_buffer n s e = eqb-true (length s) n (not_false (eqb (length s) n) e)
-
-pub claim_short : (claim : Option (List ℕ)) → (bad_claim claim).0 ≡ false → length (words_of claim) ≤ 4096
-claim_short None e = omega arith
-claim_short (Some xs) e = (good_length (length xs) e).1
 
 pub record Fine (w : ℕ) (root : List ℕ) (depth : ℕ) (claim : Option (List ℕ)) (path : List ℕ) : Type 0 where
   pub shallow : depth ≤ 8

@@ -23,14 +23,14 @@ pub struct Site<'a> {
     pub place: usize,
 }
 
-// Whether a claim is too short or too long for a record.
+// Whether any claim is too short or too long for a record.
 fn any_bad_claim(openings: &[Opening<'_>]) -> bool
     ensures { result ≡ list_any (λ x. (bad_claim (claim_of x)).0) openings.now }
 {
     openings.iter().any(|x| is_bad_claim(x.claim))
 }
 
-// Whether a path has not exactly so many words.
+// Whether any path has not exactly so many words.
 fn any_bad_path(openings: &[Opening<'_>], long: usize) -> bool
     ensures { result ≡ list_any (λ x. (bad_buffer long x.path.now).0) openings.now }
 {
