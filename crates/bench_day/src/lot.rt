@@ -158,7 +158,7 @@ fn answer<K: Kind>(
 
 // Closes a lot. What its buyer relies on from here on is the contract of `promises`, for every kind.
 fn close<K: Kind + Drop>(lot: Phase<K>) -> Phase<K> {
-    let _ = promises::<K>();
+    promises::<K>();
     match lot {
         Phase::Filling(l) => Phase::Closed(l.close()),
         Phase::Closed(l) => Phase::Closed(l),

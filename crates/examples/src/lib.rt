@@ -3,8 +3,7 @@
 
 ghost use Rattle.examples.specs.Table.{WorkedExamples};
 
-pub fn examples_stand() -> u8
+pub fn examples_stand()
     ensures { WorkedExamples }
 {
-    0
 }

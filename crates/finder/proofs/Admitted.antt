@@ -1,25 +1,19 @@
 -- What two openings that are admitted have, and the causes of a refusal in a row.
-use Rattle.std.proofs.Common.{◌≡◌, ℕ, ◌*◌, false, List, [], ◌∷◌, ◌++◌, length, Option, sym, refl, ap, ◌∙◌, ⊎_elim, arith}
-use Rattle.std.proofs.lemmas.Bool.{cases_Bool, ltb-false, le-ltb}
+use Rattle.std.proofs.Common.{◌≡◌, ℕ, ◌*◌, false, List, [], ◌∷◌, ◌++◌, length, Option, ap, ◌∙◌, arith}
+use Rattle.std.proofs.lemmas.Bool.{ltb-false, le-ltb}
 use Rattle.field.specs.Field.{Elements}
 use Rattle.kinds.specs.Answers.{Answer, granted, denied, Cause, answer}
 use Rattle.kinds.specs.Words.{first_bad, not_elements}
 use Rattle.kinds.proofs.FirstBad.{first_is}
 use Rattle.model.proofs.Causes.{NoneThere, none_there, all_elements}
+use Rattle.model.specs.Calls.{no_place}
+use Rattle.kinds.specs.Permuting.{bad_buffer}
 use Rattle.openings.specs.Opening.{words_of}
+use Rattle.openings.specs.Checks.{too_deep, bad_claim}
 use Rattle.openings.proofs.Tests.{each_left, each_right}
 use Rattle.openings.proofs.Admitted.{Fine, right_buffer}
-use Rattle.finder.specs.Findings.{Shown, nothing, handed_causes, unless_denied, found, verdict, find_call, judged_call}
-
--- the first causes decide, unless none of them is there
-pub answer_past : (xs ys : List Cause) → answer xs ≡ granted → answer (xs ++ ys) ≡ answer ys
-answer_past [] ys e = refl
-answer_past (x ∷ xs) ys e = let none = none_there (x ∷ xs) e in rw none.0 (answer_past xs ys (rw none.0 at e))
-
-pub answer_front : (xs ys : List Cause) (n : ℕ) (vs : List ℕ) → denied n vs ≡ answer xs → denied n vs ≡ answer (xs ++ ys)
-answer_front [] ys n vs e = absurd (let z : ◌≡◌ {A = ℕ} 0 1 = cc in omega arith)
-answer_front (x ∷ xs) ys n vs e =
-    ⊎_elim (λ b. rw b (rw b at e)) (λ b. rw b (answer_front xs ys n vs (rw b at e))) (cases_Bool x.0)
+use Rattle.openings.proofs.Causes.{answer_front}
+use Rattle.finder.specs.Findings.{Shown, nothing, handed_causes, unless_denied, found, verdict, find_call}
 
 pub record BothFine (w : ℕ) (root : List ℕ) (depth : ℕ) (claim1 : Option (List ℕ)) (path1 : List ℕ) (claim2 : Option (List ℕ)) (path2 out : List ℕ) : Type 0 where
   pub one : Fine w root depth claim1 path1
@@ -55,10 +49,6 @@ pub none_back : (xs ys : List Cause) → NoneThere (xs ++ ys) → NoneThere ys
 none_back [] ys none = none
 none_back (x ∷ xs) ys none = none_back xs ys none.1
 
-pub none_granted : (xs : List Cause) → NoneThere xs → answer xs ≡ granted
-none_granted [] none = refl
-none_granted (x ∷ xs) none = rw none.0 (none_granted xs none.1)
-
 pub good_elements : (xs : List ℕ) → Elements xs → (not_elements xs).0 ≡ false
 good_elements xs e =
     let all = first_is xs (length xs) (omega arith) e (λ h. absurd (omega arith)) in
@@ -73,8 +63,10 @@ module _ (c w : ℕ) (F : List ℕ → List ℕ) (root : List ℕ) (depth place 
       ap (λ (a : Answer). unless_denied a out (found c w F depth place claim1 path1 claim2 path2 out))
       (answer_front (handed_causes w root depth place claim1 path1 claim2 path2 out) (verdict c w F root depth place claim1 path1 claim2 path2) n vs here)
 
-  pub call_judged : (x : Answer × Shown × List ℕ) → granted ≡ answer (handed_causes wi root depth place claim1 path1 claim2 path2 out) → x ≡ judged_call c w F root depth place claim1 path1 claim2 path2 out → x ≡ find_call c w F root depth place claim1 path1 claim2 path2 out
-  call_judged x e j =
-      let here = e ∙ ap (λ (k : ℕ). answer (handed_causes k root depth place claim1 path1 claim2 path2 out)) ew in
-      j ∙ ap (λ (a : Answer). unless_denied a out (found c w F depth place claim1 path1 claim2 path2 out))
-      (sym (answer_past (handed_causes w root depth place claim1 path1 claim2 path2 out) (verdict c w F root depth place claim1 path1 claim2 path2) (sym here)))
+  -- the refusals of numbers and lengths, which come first
+  abbrev lengths : List Cause
+  lengths = too_deep depth ∷ no_place depth place ∷ bad_claim claim1 ∷ bad_claim claim2 ∷ bad_buffer wi root ∷ bad_buffer (depth * wi) path1 ∷ bad_buffer (depth * wi) path2 ∷ []
+
+  pub lengths_denied : (n : ℕ) (vs : List ℕ) → denied n vs ≡ answer lengths → ◌≡◌ {A = Answer × Shown × List ℕ} (denied n vs, nothing, out) (find_call c w F root depth place claim1 path1 claim2 path2 out)
+  lengths_denied n vs e =
+      call_denied n vs (answer_front lengths (bad_buffer (4 * wi) out ∷ not_elements (root ++ (words_of claim1 ++ (path1 ++ (words_of claim2 ++ path2)))) ∷ []) n vs e)

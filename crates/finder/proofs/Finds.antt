@@ -1,40 +1,40 @@
 -- What the finder's steps come to.
-use Rattle.std.proofs.Common.{◌≡◌, ℕ, zero, suc, ◌+◌, ◌-◌, ◌*◌, ◌<◌, ◌≤◌, Bool, true, false, List, length, take, drop, Option, sym, refl, ap, ◌∙◌, ⊎_elim, mul-le-mul_right, suc-mul, zero-mul, arith}
+use Rattle.std.proofs.Common.{◌≡◌, ℕ, zero, suc, ◌+◌, ◌*◌, ◌<◌, ◌≤◌, Bool, true, false, not, eqb, List, length, take, drop, Option, sym, refl, ap, ◌∙◌, ⊎_elim, mul-le-mul_right, suc-mul, zero-mul, add-one, arith}
 use Rattle.std.proofs.lemmas.Bool.{cases_Bool, cases_eq}
 use Rattle.std.proofs.lemmas.List.{length-append, length-drop, length-take-le, take_all, drop_at, take-append-le, drop-append-le}
+use Rattle.std.proofs.lemmas.Bool.Decides.{Decides-eqb}
+use Rattle.std.proofs.lemmas.Slice.Eq.{slice_eq-Decides}
+use lib.Pointwise.{pointwise}
 use Rattle.field.specs.Field.{Elements}
 use Rattle.kinds.specs.Kinds.{State, Sound}
 use Rattle.kinds.specs.Answers.{Answer, granted, answer}
-use Rattle.sponge.specs.Overlays.{overlaid}
 use Rattle.model.specs.Trees.{leaf}
-use Rattle.openings.specs.Opening.{same, words_of, part_at, flat, pair_at, pairs_below, reaches, Ready}
+use Rattle.openings.specs.Opening.{same, part_at, flat, pair_at, pairs_below, reaches}
 use Rattle.openings.proofs.Digests.{leaf_state, pair_digests, flat_state}
-use Rattle.openings.proofs.Steps.{both_laid}
-use Rattle.finder.specs.Findings.{Shown, pairs, highest, show_at, shows, alike, verdict_causes, words_at, found, judged_call}
+use Rattle.openings.proofs.Tests.{same_result}
+use Rattle.openings.proofs.Admitted.{Fine, not_false}
+use Rattle.finder.specs.Findings.{Shown, highest, show_at, shows, alike, verdict_causes, words_at, found, judged_call}
 
--- parts of one length, from the last down
-pub last_part : (k left at : ℕ) → at ≡ left * k → 0 < left → at ≡ (left - 1) * k + k
-last_part k left at e h =
-    let s : left ≡ suc (left - 1) = omega arith in
-    e ∙ ap (λ (n : ℕ). n * k) s ∙ suc-mul (left - 1) k
+not_true : (b : Bool) → not b ≡ true → b ≡ false
+not_true true e = sym e
+not_true false e = refl
 
-pub parts_in : (k left n : ℕ) → left ≤ n → left * k ≤ n * k
-parts_in k left n h = mul-le-mul_right k h
+-- words that the code finds to differ, or not to
+same_words : (xs ys : List ℕ) → pointwise eqb xs ys ≡ same xs ys
+same_words xs ys = same_result xs ys (pointwise eqb xs ys) (slice_eq-Decides Decides-eqb xs ys _ refl)
 
-pub test_at : (k left at : ℕ) (a b : List ℕ) (r : Bool) → at ≡ left * k → 0 < left → r ≡ same (take (at - k + k - (at - k)) (drop (at - k) a)) (take (at - k + k - (at - k)) (drop (at - k) b)) → r ≡ same (part_at k (left - 1) a) (part_at k (left - 1) b)
-test_at k left at a b r e h er =
-    let l = last_part k left at e h in
-    let z : at - k + k - (at - k) ≡ k = omega arith in
-    let y : at - k ≡ (left - 1) * k = omega arith in
-    er ∙ rw (z, y)
+pub words_differ : (xs ys : List ℕ) (r : Bool) → r ≡ not (pointwise eqb xs ys) → r ≡ true → same xs ys ≡ false
+words_differ xs ys r e t = sym (same_words xs ys) ∙ not_true (pointwise eqb xs ys) (sym e ∙ t)
 
-pub highest_here : (test : ℕ → Bool) (left : ℕ) → 0 < left → test (left - 1) ≡ false → left ≡ highest test left
-highest_here test zero h e = absurd (omega arith)
-highest_here test (suc m) h e = let z : suc m - 1 ≡ m = omega arith in let t : test m ≡ false = rw z at e in rw t
+pub words_alike : (xs ys : List ℕ) (r : Bool) → r ≡ not (pointwise eqb xs ys) → r ≡ false → same xs ys ≡ true
+words_alike xs ys r e t = sym (same_words xs ys) ∙ not_false (pointwise eqb xs ys) (sym e ∙ t)
 
-pub highest_on : (test : ℕ → Bool) (left : ℕ) → 0 < left → test (left - 1) ≡ true → highest test (left - 1) ≡ highest test left
-highest_on test zero h e = absurd (omega arith)
-highest_on test (suc m) h e = let z : suc m - 1 ≡ m = omega arith in let t : test m ≡ true = rw z at e in rw (z, t)
+-- a level that fails with none above it that does, and a level that passes
+pub highest_here : (test : ℕ → Bool) (level : ℕ) → test level ≡ false → suc level ≡ highest test (level + 1)
+highest_here test level e = rw (add-one level, e)
+
+pub highest_on : (test : ℕ → Bool) (level : ℕ) → test level ≡ true → highest test level ≡ highest test (level + 1)
+highest_on test level e = rw (add-one level, e)
 
 pub highest_le : (test : ℕ → Bool) (n : ℕ) → highest test n ≤ n
 highest_le test zero = omega arith
@@ -54,21 +54,15 @@ shows_agree q1 q2 p1 p2 claim1 claim2 out depth e f =
     let n : highest (λ level. same (q1 level) (q2 level)) depth ≡ highest (λ level. same (p1 level) (p2 level)) depth = highest_agree (λ level. same (q1 level) (q2 level)) (λ level. same (p1 level) (p2 level)) depth (λ k h. rw (e k h, f k h)) in
     ap (show_at q1 q2 claim1 claim2 out) n ∙ show_agree q1 q2 p1 p2 claim1 claim2 out depth _ (highest_le (λ level. same (p1 level) (p2 level)) depth) e f
 
-pub show_is : (k n : ℕ) (first second out t u : List ℕ) (claim1 claim2 : Option (List ℕ)) → 0 < n → n * k ≤ length first → n * k ≤ length second → length out ≡ k + k →
-    t ≡ overlaid out 0 (take ((n - 1) * k + k - (n - 1) * k) (drop ((n - 1) * k) first)) → u ≡ overlaid t k (take ((n - 1) * k + k - (n - 1) * k) (drop ((n - 1) * k) second)) →
-    ◌≡◌ {A = Shown × List ℕ} (pairs (n - 1), u) (show_at (λ level. part_at k level first) (λ level. part_at k level second) claim1 claim2 out n)
-show_is k zero first second out t u claim1 claim2 h n1 n2 room et eu = absurd (omega arith)
-show_is k (suc m) first second out t u claim1 claim2 h n1 n2 room et eu =
-    let y : suc m - 1 ≡ m = omega arith in
-    let z : m * k + k - m * k ≡ k = omega arith in
-    let more = suc-mul m k in
-    let et' : t ≡ overlaid out 0 (part_at k m first) = rw (y, z) at et in
-    let eu' : u ≡ overlaid t k (part_at k m second) = rw (y, z) at eu in
-    let l1 : length (part_at k m first) ≡ k = length-take-le k (drop (m * k) first) (let d = length-drop (m * k) first in omega arith) in
-    let l2 : length (part_at k m second) ≡ k = length-take-le k (drop (m * k) second) (let d = length-drop (m * k) second in omega arith) in
-    let eu'' : u ≡ overlaid t (length (part_at k m first)) (part_at k m second) = eu' ∙ ap (λ (i : ℕ). overlaid t i (part_at k m second)) (sym l1) in
-    let both = both_laid out t u (part_at k m first) (part_at k m second) (omega arith) et' eu'' in
-    rw (y, both)
+-- a part within a row of parts
+pub part_room : (k level n : ℕ) → level < n → level * k + k ≤ n * k
+part_room k level n h =
+    let a = suc-mul level k in
+    let b : suc level * k ≤ n * k = mul-le-mul_right k (omega arith) in
+    omega arith
+
+pub part_long : (k level : ℕ) (words : List ℕ) → level * k + k ≤ length words → length (part_at k level words) ≡ k
+part_long k level words h = length-take-le k (drop (level * k) words) (let d = length-drop (level * k) words in omega arith)
 
 -- each pair in its place
 module _ {n c w : ℕ} {F : List ℕ → List ℕ} (s : Sound n c w F) (place depth : ℕ) (bottom path : List ℕ) (low : State w bottom) (long : length path ≡ depth * w) (each : Elements path) where
@@ -101,13 +95,13 @@ module _ {n c w : ℕ} {F : List ℕ → List ℕ} (s : Sound n c w F) (place de
       (cases_eq level m)
 
 -- what is shown from the pairs that two climbs left is what the openings show
-pub compared : {n c w : ℕ} {F : List ℕ → List ℕ} → Sound n c w F → (root : List ℕ) (depth place : ℕ) (claim1 : Option (List ℕ)) (path1 : List ℕ) (claim2 : Option (List ℕ)) (path2 out : List ℕ) (room rooms1 rooms2 : ℕ) →
-    Ready w depth (words_of claim1) path1 room rooms1 → Ready w depth (words_of claim2) path2 room rooms2 → (one two together : Bool) (first second left : List ℕ) (x : Shown) (k : ℕ) →
+pub compared : {n c w : ℕ} {F : List ℕ → List ℕ} → Sound n c w F → (root : List ℕ) (depth place : ℕ) (claim1 : Option (List ℕ)) (path1 : List ℕ) (claim2 : Option (List ℕ)) (path2 out : List ℕ) →
+    Fine w root depth claim1 path1 → Fine w root depth claim2 path2 → (one two together : Bool) (first second left : List ℕ) (x : Shown) (k : ℕ) →
     one ≡ reaches c w F root depth place claim1 path1 → two ≡ reaches c w F root depth place claim2 path2 → together ≡ alike claim1 path1 claim2 path2 →
     first ≡ pairs_below c w F place (leaf c w F claim1) path1 depth → second ≡ pairs_below c w F place (leaf c w F claim2) path2 depth → k ≡ 2 * w → granted ≡ answer (verdict_causes one two together) →
     ◌≡◌ {A = Shown × List ℕ} (x, left) (shows (λ level. part_at k level first) (λ level. part_at k level second) claim1 claim2 out depth) →
     ◌≡◌ {A = Answer × Shown × List ℕ} (granted, x, left) (judged_call c w F root depth place claim1 path1 claim2 path2 out)
-compared {n} {c} {w} {F} s root depth place claim1 path1 claim2 path2 out room rooms1 rooms2 o1 o2 one two together first second left x k e1 e2 ea f1 f2 ek j f =
+compared {n} {c} {w} {F} s root depth place claim1 path1 claim2 path2 out o1 o2 one two together first second left x k e1 e2 ea f1 f2 ek j f =
     let agreed : answer (verdict_causes (reaches c w F root depth place claim1 path1) (reaches c w F root depth place claim2 path2) (alike claim1 path1 claim2 path2)) ≡ granted = sym (rw (e1, e2, ea) at j) in
     let g1 : (level : ℕ) → level < depth → part_at k level first ≡ words_at c w F place claim1 path1 level = λ level h. rw (f1, ek) (pair_in s place depth (leaf c w F claim1) path1 (leaf_state s claim1 o1.each) o1.long o1.path_each depth level (omega arith) h) in
     let g2 : (level : ℕ) → level < depth → part_at k level second ≡ words_at c w F place claim2 path2 level = λ level h. rw (f2, ek) (pair_in s place depth (leaf c w F claim2) path2 (leaf_state s claim2 o2.each) o2.long o2.path_each depth level (omega arith) h) in

@@ -7,7 +7,7 @@ use Rattle.kinds.specs.Permuting.{bad_buffer}
 use Rattle.sponge.proofs.Parts.{each_append}
 use Rattle.model.specs.Calls.{no_place}
 use Rattle.model.specs.Trees.{leaf}
-use Rattle.model.proofs.Causes.{NoneThere, none_there}
+use Rattle.model.proofs.Causes.{NoneThere, none_there, granted_by}
 use Rattle.openings.specs.Opening.{same, words_of, is_right, part_at, Pair, flat, own_at, pair_at, reaches}
 use Rattle.openings.specs.Checks.{too_deep, bad_claim, check_causes, check_answer}
 use Rattle.openings.proofs.Digests.{same_decides, leaf_state, pair_digests, from_flat, paired_parts}
@@ -15,7 +15,8 @@ use Rattle.openings.proofs.Admitted.{Fine, admitted_fine, not_false}
 use Rattle.finder.specs.Findings.{Shown, nothing, same_claim, alike, highest, claims_show, show_at, handed_causes, words_at, found, verdict, find_answer, find_call}
 use Rattle.finder.specs.Law.{AlikeFrom, Real, BothAccepted, Finds, ClashLaw}
 use Rattle.finder.proofs.Levels.{highest_none, highest_some, paths_alike}
-use Rattle.finder.proofs.Admitted.{answer_past, BothFine, both_fine, none_front, none_back, none_granted, good_elements}
+use Rattle.finder.proofs.Admitted.{BothFine, both_fine, none_front, none_back, good_elements}
+use Rattle.openings.proofs.Causes.{answer_past}
 
 -- claims and paths that are alike
 claims_alike : (a b : Option (List ℕ)) → (same_claim a b ≡ true → a ≡ b) × (a ≡ b → same_claim a b ≡ true)
@@ -119,7 +120,7 @@ accepted_parts (denied m vs) b e = absurd (let z : ◌≡◌ {A = ℕ} 0 1 = cc 
 -- the check grants an opening of two that the finder grants
 check_granted : (w : ℕ) (root : List ℕ) (depth place : ℕ) (claim : Option (List ℕ)) (path : List ℕ) → (too_deep depth).0 ≡ false → (no_place depth place).0 ≡ false → (bad_claim claim).0 ≡ false → (bad_buffer w root).0 ≡ false → (bad_buffer (depth * w) path).0 ≡ false → Fine w root depth claim path → check_answer w root depth place claim path ≡ granted
 check_granted w root depth place claim path e1 e2 e3 e4 e5 o =
-    none_granted (check_causes w root depth place claim path)
+    granted_by (check_causes w root depth place claim path)
     (e1, (e2, (e3, (e4, (e5, (good_elements (root ++ (words_of claim ++ path)) (each_append root _ o.root_each (each_append (words_of claim) path o.each o.path_each)), tt))))))
 
 module _ {n c w : ℕ} {F : List ℕ → List ℕ} (s : Sound n c w F) (root : List ℕ) (depth place : ℕ) (claim1 : Option (List ℕ)) (path1 : List ℕ) (claim2 : Option (List ℕ)) (path2 out : List ℕ) where
@@ -167,7 +168,7 @@ module _ {n c w : ℕ} {F : List ℕ → List ℕ} (s : Sound n c w F) (root : L
       let handed = handed_causes w root depth place claim1 path1 claim2 path2 out in
       let judging = verdict c w F root depth place claim1 path1 claim2 path2 in
       let given : NoneThere handed = (n1.0, (n1.1.0, (n1.1.1.0, (n2.1.1.0, (n1.1.1.1.0, (n1.1.1.1.1.0, (n2.1.1.1.1.0, (roomy, (words, tt))))))))) in
-      answer_past handed judging (none_granted handed given) ∙ rw (a1.1, a2.1, alike_false claim1 path1 claim2 path2 both.differ)
+      answer_past handed judging (granted_by handed given) ∙ rw (a1.1, a2.1, alike_false claim1 path1 claim2 path2 both.differ)
 
   finds : Finds c w F root depth place claim1 path1 claim2 path2 out (find_call c w F root depth place claim1 path1 claim2 path2 out)
   finds =

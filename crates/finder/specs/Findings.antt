@@ -44,6 +44,11 @@ abbrev pub highest : (ℕ → Bool) → ℕ → ℕ
 highest test zero = 0
 highest test (suc level) = cond (test level) (highest test level) (suc level)
 
+-- the same of the level itself, where there is one
+abbrev pub one_past : Option ℕ → ℕ
+one_past (Some level) = suc level
+one_past None = 0
+
 -- what two claims show whose paths are alike
 abbrev pub claims_show : Option (List ℕ) → Option (List ℕ) → Shown
 claims_show (Some xs) (Some ys) = records

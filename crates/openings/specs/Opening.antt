@@ -58,11 +58,10 @@ module _ (c w : ℕ) (F : List ℕ → List ℕ) where
   abbrev pub reaches : List ℕ → ℕ → ℕ → Option (List ℕ) → List ℕ → Bool
   reaches root depth place claim path = same (own_at place (leaf c w F claim) path depth) root
 
--- what a climb is handed: elements, a path for the depth, and room for one digest and for all pairs
-pub record Ready (w depth : ℕ) (words path : List ℕ) (room rooms : ℕ) : Type 0 where
+-- what a climb is handed: elements, a path for the depth, and room for all pairs
+pub record Ready (w depth : ℕ) (words path : List ℕ) (rooms : ℕ) : Type 0 where
   pub shallow : depth ≤ 8
   pub each : Elements words
   pub long : length path ≡ depth * w
   pub path_each : Elements path
-  pub own_long : room ≡ w
   pub pairs_long : rooms ≡ depth * (2 * w)

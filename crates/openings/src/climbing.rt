@@ -5,13 +5,14 @@ ghost use Rattle.field.specs.Field.{Elements};
 ghost use Rattle.kinds.specs.Kinds.{State};
 ghost use Rattle.sponge.specs.Digests.{two_to_one};
 ghost use Rattle.model.specs.Trees.{leaf};
-ghost use Rattle.openings.specs.Opening.{words_of, is_right, paired, flat, hash_of, own_at, pairs_below, reaches, Ready};
+ghost use Rattle.openings.specs.Opening.{words_of, paired, flat, hash_of, own_at, pairs_below, reaches, Ready};
 
 use crate::opening::Opening;
-use crate::words::is_same;
+use crate::site::Site;
+use crate::words::lay;
 use kinds::kind::Kind;
 use sponge::digest::digest_elements;
-use sponge::pair::{compress, overlay};
+use sponge::pair::compress;
 
 // The leaf of a claim.
 fn leaf_of<K: Kind>(kind: &K, claim: Option<&[u64]>, own: &mut [u64])
@@ -25,38 +26,6 @@ fn leaf_of<K: Kind>(kind: &K, claim: Option<&[u64]>, own: &mut [u64])
     }
 }
 
-// Whether the digest at a level is the right one of its pair.
-fn is_on_right(place: usize, level: usize) -> bool
-    requires { level < 64 }
-    ensures { result ≡ is_right place level }
-{
-    (place >> level) % 2 == 1
-}
-
-// The two digests in their order.
-fn lay_pair(right: bool, own: &[u64], sibling: &[u64], pair: &mut [u64])
-    requires { length pair.old ≡ length own.now + length sibling.now }
-    ensures { pair.new ≡ flat (paired right own.now sibling.now) }
-{
-    if right {
-        overlay(pair, 0, sibling);
-        overlay(pair, sibling.len(), own);
-    } else {
-        overlay(pair, 0, own);
-        overlay(pair, own.len(), sibling);
-    }
-}
-
-// The two-to-one hash of a pair.
-fn hash_pair<K: Kind>(kind: &K, pair: &[u64], own: &mut [u64])
-    requires pair { State (2 * K.DIGEST) pair.now }
-    requires long { length own.old ≡ K.DIGEST }
-    ensures { own.new ≡ two_to_one K.CAPACITY K.DIGEST K.mapping (take K.DIGEST pair.now) (drop K.DIGEST pair.now) }
-{
-    let w = K::DIGEST;
-    compress(kind, &pair[0..w], &pair[w..2 * w], own);
-}
-
 // One level up; the pair is left in `pair`.
 fn step<K: Kind>(kind: &K, right: bool, own: &mut [u64], sibling: &[u64], pair: &mut [u64])
     requires own { State K.DIGEST own.old }
@@ -65,54 +34,44 @@ fn step<K: Kind>(kind: &K, right: bool, own: &mut [u64], sibling: &[u64], pair: 
     ensures own { own.new ≡ hash_of K.CAPACITY K.DIGEST K.mapping (paired right own.old sibling.now) }
     ensures pair { pair.new ≡ flat (paired right own.old sibling.now) }
 {
-    lay_pair(right, own, sibling, pair);
-    hash_pair(kind, pair, own);
+    if right {
+        lay(sibling, own, pair);
+    } else {
+        lay(own, sibling, pair);
+    }
+    let (first, second) = pair.split_at(K::DIGEST);
+    compress(kind, first, second, own);
 }
 
 // From the leaf to the top, one hash for each level.
-fn climb<K: Kind>(
-    kind: &K,
-    depth: usize,
-    place: usize,
-    own: &mut [u64],
-    path: &[u64],
-    pairs: &mut [u64],
-)
-    requires { Ready K.DIGEST depth own.old path.now (length own.old) (length pairs.old) }
-    ensures own { own.new ≡ own_at K.CAPACITY K.DIGEST K.mapping place own.old path.now depth }
-    ensures pairs { pairs.new ≡ pairs_below K.CAPACITY K.DIGEST K.mapping place own.old path.now depth }
+fn climb<K: Kind>(kind: &K, site: Site<'_>, path: &[u64], own: &mut [u64], pairs: &mut [u64])
+    requires ready { Ready K.DIGEST site.depth own.old path.now (length pairs.old) }
+    requires room { length own.old ≡ K.DIGEST }
+    ensures own { own.new ≡ own_at K.CAPACITY K.DIGEST K.mapping site.entry.place own.old path.now site.entry.depth }
+    ensures pairs { pairs.new ≡ pairs_below K.CAPACITY K.DIGEST K.mapping site.entry.place own.old path.now site.entry.depth }
 {
     let w = K::DIGEST;
-    let mut at = 0;
-    let mut to = 0;
-    for level in 0..depth {
+    for (level, sibling) in path.chunks_exact(w).enumerate() {
+        let at = 2 * w * level;
         step(
             kind,
-            is_on_right(place, level),
+            site.is_on_right(level),
             own,
-            &path[at..at + w],
-            &mut pairs[to..to + 2 * w],
+            sibling,
+            &mut pairs[at..at + 2 * w],
         );
-        at += w;
-        to += 2 * w;
     }
 }
 
 // Whether an opening that is known to be one comes to the root; its pairs are left in `pairs`.
-pub fn reach<K: Kind>(
-    kind: &K,
-    root: &[u64],
-    depth: usize,
-    place: usize,
-    opening: Opening<'_>,
-    own: &mut [u64],
-    pairs: &mut [u64],
-) -> bool
-    requires { Ready K.DIGEST depth (words_of (option_map (λ x. x.now) opening.claim)) opening.path.now (length own.old) (length pairs.old) }
-    ensures answer { result ≡ reaches K.CAPACITY K.DIGEST K.mapping root.now depth place (option_map (λ x. x.now) opening.entry.claim) opening.entry.path.now }
-    ensures pairs { pairs.new ≡ pairs_below K.CAPACITY K.DIGEST K.mapping place (leaf K.CAPACITY K.DIGEST K.mapping (option_map (λ x. x.now) opening.entry.claim)) opening.entry.path.now depth }
+pub fn reach<K: Kind>(kind: &K, site: Site<'_>, opening: Opening<'_>, pairs: &mut [u64]) -> bool
+    requires { Ready K.DIGEST site.depth (words_of (option_map (λ x. x.now) opening.claim)) opening.path.now (length pairs.old) }
+    ensures answer { result ≡ reaches K.CAPACITY K.DIGEST K.mapping site.entry.root.now site.entry.depth site.entry.place (option_map (λ x. x.now) opening.entry.claim) opening.entry.path.now }
+    ensures pairs { pairs.new ≡ pairs_below K.CAPACITY K.DIGEST K.mapping site.entry.place (leaf K.CAPACITY K.DIGEST K.mapping (option_map (λ x. x.now) opening.entry.claim)) opening.entry.path.now site.entry.depth }
 {
+    let mut words = [0u64; 16];
+    let own = &mut words[..K::DIGEST];
     leaf_of(kind, opening.claim, own);
-    climb(kind, depth, place, own, opening.path, pairs);
-    is_same(own, root)
+    climb(kind, site, opening.path, own, pairs);
+    &*own == site.root
 }

@@ -3,4 +3,5 @@
 pub mod checking;
 pub mod climbing;
 pub mod opening;
+pub mod site;
 pub mod words;

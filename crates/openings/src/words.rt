@@ -1,50 +1,50 @@
 // Words of claims, roots and paths, as they come from outside.
-ghost use Rattle.std.specs.Prelude.{◌≡◌, ℕ, ◌+◌, ◌≤◌, List, ◌++◌, length};
+ghost use Rattle.std.specs.Prelude.{◌≡◌, ◌+◌, ◌≤◌, [], ◌∷◌, ◌++◌, length};
+ghost use Rattle.std.specs.List.{flat_map};
 ghost use Rattle.std.specs.Option.{option_map};
-ghost use Rattle.kinds.specs.Words.{first_bad};
-ghost use Rattle.openings.specs.Opening.{same, words_of};
+ghost use Rattle.kinds.specs.Answers.{answer};
+ghost use Rattle.kinds.specs.Denials.{told};
+ghost use Rattle.kinds.specs.Words.{not_elements};
+ghost use Rattle.openings.specs.Opening.{words_of};
 ghost use Rattle.openings.specs.Checks.{bad_claim};
 
-use kinds::words::first_bad;
+use kinds::denial::Denial;
+use kinds::words::admit;
 use sponge::digest::LONGEST;
-
-// Whether two slices hold the same words.
-pub fn is_same(a: &[u64], b: &[u64]) -> bool
-    ensures { result ≡ same a.now b.now }
-{
-    a == b
-}
 
 // The words of a claim.
 pub fn words_of<'a>(claim: Option<&'a [u64]>) -> &'a [u64]
     ensures { result.now ≡ words_of (option_map (λ x. x.now) claim.entry) }
 {
-    match claim {
-        Some(words) => words,
-        None => &[],
-    }
+    claim.unwrap_or(&[])
 }
 
 // Whether a claim is too short or too long for a record.
 pub fn is_bad_claim(claim: Option<&[u64]>) -> bool
     ensures { result ≡ (bad_claim (option_map (λ x. x.now) claim.entry)).0 }
 {
-    match claim {
-        Some(words) => words.len() == 0 || words.len() > LONGEST,
-        None => false,
-    }
+    claim.is_some_and(|words| words.is_empty() || words.len() > LONGEST)
 }
 
-// How many words stand before the first that is no element, where `rest` says it of those that follow these.
-pub fn first_bad_past(words: &[u64], rest: usize) -> usize
-    requires { (length words.now ≤ 65536) × (rest ≤ 65536) }
-    ensures small { result ≤ length words.now + rest }
-    ensures counts { (after : List ℕ) → rest ≡ first_bad after → result ≡ first_bad (words.now ++ after) }
+// Refusal 7; the index is counted through all parts in a row.
+pub fn admit_words(parts: &[&[u64]]) -> Result<(), Denial>
+    requires { length (flat_map (λ x. x.now) parts.now) ≤ 65536 }
+    ensures { told result ≡ answer (not_elements (flat_map (λ x. x.now) parts.now) ∷ []) }
 {
-    let bad = first_bad(words);
-    if bad < words.len() {
-        bad
-    } else {
-        words.len() + rest
+    let mut before = 0;
+    for part in parts {
+        admit(before, part)?;
+        before += part.len();
     }
+    Ok(())
+}
+
+// Lays two parts side by side.
+pub fn lay(first: &[u64], second: &[u64], all: &mut [u64])
+    requires { length all.old ≡ length first.now + length second.now }
+    ensures { all.new ≡ first.now ++ second.now }
+{
+    let (front, back) = all.split_at_mut(first.len());
+    front.copy_from_slice(first);
+    back.copy_from_slice(second);
 }

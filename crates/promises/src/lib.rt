@@ -6,8 +6,7 @@ ghost use Rattle.promises.specs.Promises.{Promises};
 use kinds::kind::Kind;
 
 // For every kind, from its law alone.
-pub fn promises<K: Kind>() -> u8
+pub fn promises<K: Kind>()
     ensures { Promises K.CAPACITY K.DIGEST K.mapping }
 {
-    0
 }

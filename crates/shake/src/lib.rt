@@ -5,6 +5,7 @@ ghost use Rattle.std.specs.Prelude.{◌≡◌, ◌+◌, ◌*◌, ◌/◌, ◌<�
 ghost use Rattle.shake.specs.Shake.{padded_at, padded_lane, mixed, absorbed, state_byte, output, shake256_bytes};
 
 use keccak::keccak_f;
+use std::array;
 
 // Byte i of the padded text.
 fn padded_byte(text: &[u8], i: usize) -> u8
@@ -30,16 +31,7 @@ fn padded_lane(text: &[u8], i: usize) -> u64
     requires { i ≤ length text.now + 128 }
     ensures { result ≡ padded_lane text.now i }
 {
-    u64::from_le_bytes([
-        padded_byte(text, i),
-        padded_byte(text, i + 1),
-        padded_byte(text, i + 2),
-        padded_byte(text, i + 3),
-        padded_byte(text, i + 4),
-        padded_byte(text, i + 5),
-        padded_byte(text, i + 6),
-        padded_byte(text, i + 7),
-    ])
+    u64::from_le_bytes(array::from_fn(|k| padded_byte(text, i + k)))
 }
 
 // Xors the block of the padded text at byte i into the first 17 lanes.
@@ -47,8 +39,8 @@ fn mixed(text: &[u8], i: usize, mut lanes: [u64; 25]) -> [u64; 25]
     requires { i ≤ length text.now }
     ensures { result ≡ mixed text.now i lanes 17 }
 {
-    for j in 0..17 {
-        lanes[j] ^= padded_lane(text, i + 8 * j);
+    for (j, lane) in lanes[..17].iter_mut().enumerate() {
+        *lane ^= padded_lane(text, i + 8 * j);
     }
     lanes
 }
@@ -77,8 +69,8 @@ fn state_byte(lanes: &[u64; 25], i: usize) -> u8
 fn squeeze(mut lanes: [u64; 25], out: &mut [u8])
     ensures { out.new ≡ output lanes (length out.old) }
 {
-    for i in 0..out.len() {
-        out[i] = state_byte(&lanes, i % 136);
+    for (i, byte) in out.iter_mut().enumerate() {
+        *byte = state_byte(&lanes, i % 136);
         if i % 136 == 135 {
             let next = keccak_f(lanes);
             lanes = next;

@@ -7,13 +7,13 @@ rounds_more : (a : List ℕ) (n : ℕ) → rounds a (n + 1) ≡ round (rounds a 
 unfolding rounds
 rounds_more a n = rw add-one
 
-pub loop-i-init : goal.loop-i-init
+pub loop-word-init : goal.loop-word-init
 unfolding rounds
-loop-i-init c = refl
+loop-word-init c = refl
 
-pub loop-i-preserved : goal.loop-i-preserved
-loop-i-preserved c = let e = rounds_more c.args.lanes c.loop-i.i in cc
+pub loop-word-preserved : goal.loop-word-preserved
+loop-word-preserved c = let e = rounds_more c.args.lanes c.loop-word.word-index in cc
 
 pub returns : goal.returns
 unfolding keccak_f
-returns c = let e : c.loop-i.i ≡ 24 = omega arith in cc
+returns c = let e : c.loop-word.word-index ≡ 24 = omega arith in cc

@@ -1,12 +1,27 @@
-use Rattle.std.proofs.Common.{◌≤◌, arith}
+use Rattle.std.proofs.Common.{arith}
 use Rattle.openings.specs.Opening.{same, part_at}
-use Rattle.finder.proofs.Finds.{parts_in, highest_le}
+use Rattle.finder.proofs.Finds.{highest_le, part_room, part_long}
 use Rattle.finder.proofs.showing.show_highest.Goals as goal
 
-pub show_level-requires : goal.show_level-requires
-show_level-requires c =
-    let k = c.args.k in
-    let top = highest_le (λ level. same (part_at k level c.args.ones.now) (part_at k level c.args.twos.now)) c.args.depth in
-    let below : c.highest_unlike-n.result ≤ c.args.depth = rw c.highest_unlike-n.ensures top in
-    let h = parts_in k c.highest_unlike-n.result c.args.depth below in
-    (omega arith, (omega arith, c.requires.1.1))
+pub part-requires : goal.part-requires
+part-requires c =
+    let top = highest_le (λ level. same (part_at c.args.k level c.args.ones.now) (part_at c.args.k level c.args.twos.now)) c.args.depth in
+    let e = c.in-Some.ensures in
+    let room = part_room c.args.k c.in-Some.level c.args.depth (omega arith) in
+    omega arith
+
+pub part-requires-in-Some : goal.part-requires-in-Some
+part-requires-in-Some c =
+    let top = highest_le (λ level. same (part_at c.args.k level c.args.ones.now) (part_at c.args.k level c.args.twos.now)) c.args.depth in
+    let e = c.in-Some.ensures in
+    let room = part_room c.args.k c.in-Some.level c.args.depth (omega arith) in
+    omega arith
+
+pub lay-requires : goal.lay-requires
+lay-requires c =
+    let top = highest_le (λ level. same (part_at c.args.k level c.args.ones.now) (part_at c.args.k level c.args.twos.now)) c.args.depth in
+    let e = c.in-Some.ensures in
+    let room = part_room c.args.k c.in-Some.level c.args.depth (omega arith) in
+    let one = part_long c.args.k c.in-Some.level c.args.ones.now (omega arith) in
+    let two = part_long c.args.k c.in-Some.level c.args.twos.now (omega arith) in
+    rw (c.part.ensures, c.part-in-Some.ensures, one, two) c.requires.room

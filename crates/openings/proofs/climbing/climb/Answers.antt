@@ -1,58 +1,60 @@
-use Rattle.std.proofs.Common.{◌≡◌, ℕ, ◌+◌, ◌*◌, ◌≤◌, length, sym, ap, ◌∙◌, arith}
+use Rattle.std.proofs.Common.{◌≡◌, ℕ, ◌*◌, length, sym, ap, ◌∙◌, mul_comm, arith, rules}
 use Rattle.std.proofs.lemmas.List.{take_all}
 use Rattle.openings.specs.Opening.{own_at, pairs_below}
-use Rattle.openings.proofs.Steps.{within, times_more, own_more, own_now, part_now, pairs_more, room_now}
+use Rattle.openings.proofs.Steps.{next_cut, cut_ends, own_more, own_now, part_now, pairs_more}
 use Rattle.openings.proofs.climbing.climb.Goals as goal
 
-pub slice_bounds-step-end : goal.slice_bounds-step-end
-slice_bounds-step-end g c =
-    let k = g.K.Kind in
-    let h : c.loop-level.at + k.DIGEST ≤ length c.args.path.now = within k.DIGEST c.args.depth c.loop-level.level c.loop-level.at _ c.loop-level.invariant.0 c.requires.long c.loop-level-test.true in
-    omega arith
+pub step-requires-clause-own : goal.step-requires-clause-own
+step-requires-clause-own g c =
+    let l = c.loop-level in
+    let v = l.invariant in
+    own_now g.met.K.Kind.sound c.args.site.place c.args.site.depth c.args.own.now c.args.path.now _ c.requires.ready c.requires.room l.own l.level-iterator.count v.own v.level
 
-pub slice_bounds-step-end-in-loop-level : goal.slice_bounds-step-end-in-loop-level
-slice_bounds-step-end-in-loop-level g c =
-    let k = g.K.Kind in
-    let h : c.loop-level.to + 2 * k.DIGEST ≤ length c.loop-level.pairs = within (2 * k.DIGEST) c.args.depth c.loop-level.level c.loop-level.to _ c.loop-level.invariant.1 (c.loop-level.auto.pairs ∙ c.requires.pairs_long) c.loop-level-test.true in
-    omega arith
-
-pub step-requires : goal.step-requires
-step-requires g c =
-    let k = g.K.Kind in
+pub step-requires-clause-sibling : goal.step-requires-clause-sibling
+step-requires-clause-sibling g c =
     let s = g.met.K.Kind.sound in
     let l = c.loop-level in
-    let w = c.DIGEST-w.result in
-    let h = c.loop-level-test.true in
-    let room = within (2 * k.DIGEST) c.args.depth l.level l.to _ l.invariant.1 (l.auto.pairs ∙ c.requires.pairs_long) h in
-    record {
-      own = own_now s c.args.place c.args.depth c.args.own.now c.args.path.now _ c.requires l.own l.level l.invariant.2 (omega arith);
-      sibling = part_now s c.args.place c.args.depth c.args.own.now c.args.path.now _ c.requires l.level l.at w l.invariant.0 c.DIGEST-w.ensures h;
-      room = room_now l.pairs l.to w k.DIGEST c.DIGEST-w.ensures room;
-    }
+    let v = l.invariant in
+    let e = c.in-Some.ensures.steps in
+    let some = s.w_some in
+    let cut = next_cut g.K.Kind.DIGEST c.args.site.depth c.args.path.now l.level-iterator.iter.rest.now c.requires.ready.long l.level-iterator.count v.rest c.in-Some.sibling.now c.next.new.self.iter.rest.now (omega arith) e.0.1.0 (e.0.1.1 ∙ v.size) in
+    part_now s c.args.site.place c.args.site.depth c.args.own.now c.args.path.now _ c.requires.ready c.requires.room _ _ _ cut
 
 pub loop-level-preserved : goal.loop-level-preserved
 loop-level-preserved g c =
     let k = g.K.Kind in
     let s = g.met.K.Kind.sound in
     let l = c.loop-level in
-    let w = c.DIGEST-w.result in
-    let h = c.loop-level-test.true in
-    let e : w ≡ k.DIGEST = c.DIGEST-w.ensures in (
-      rw e (times_more k.DIGEST l.level l.at l.invariant.0),
-      rw e (times_more (2 * k.DIGEST) l.level l.to l.invariant.1),
-      own_more k.CAPACITY k.DIGEST k.mapping c.args.place c.args.own.now c.args.path.now l.own c.step.new.own l.level l.at w _ l.invariant.0 e c.is_on_right.ensures l.invariant.2 c.step.ensures.own,
-      pairs_more s c.args.place c.args.depth c.args.own.now c.args.path.now _ c.requires l.own l.pairs c.step.new.pair l.level l.at l.to w _ _ l.invariant.0 l.invariant.1 e
-          (l.auto.pairs ∙ c.requires.pairs_long) h c.is_on_right.ensures l.invariant.2 l.invariant.3 c.step.ensures.pair,
-    )
+    let v = l.invariant in
+    let e = c.in-Some.ensures.steps in
+    let some = s.w_some in
+    let n = l.level-iterator.count in
+    let cut = next_cut k.DIGEST c.args.site.depth c.args.path.now l.level-iterator.iter.rest.now c.requires.ready.long n v.rest c.in-Some.sibling.now c.next.new.self.iter.rest.now (omega arith) e.0.1.0 (e.0.1.1 ∙ v.size) in
+    let below = cut.below in
+    let to = 2 * c.DIGEST-w.result * c.in-Some.level in
+    let at : to ≡ n * (2 * k.DIGEST) = rw (e.1, c.DIGEST-w.ensures, mul_comm n (2 * k.DIGEST)) in
+    let right = rw e.1 at c.is_on_right.ensures in
+    record {
+      can_next = search rules;
+      is_finite = tt;
+      size = e.0.0 ∙ v.size;
+      rest = rw e.2 cut.left;
+      level = omega arith;
+      own = rw e.2 (own_more k.CAPACITY k.DIGEST k.mapping c.args.site.place c.args.own.now c.args.path.now l.own c.step.new.own c.in-Some.sibling.now n _ right v.own cut.here c.step.ensures.own);
+      pairs = rw e.2 (pairs_more s c.args.site.place c.args.site.depth c.args.own.now c.args.path.now _ c.requires.ready c.requires.room l.own c.in-Some.sibling.now c.next.new.self.iter.rest.now l.pairs c.step.new.pair n to _ _ at (l.auto.pairs ∙ c.requires.ready.pairs_long) cut right v.own v.pairs c.step.ensures.pair);
+    }
 
 pub returns : goal.returns
 returns g c =
     let k = g.K.Kind in
     let l = c.loop-level in
-    let at-end : l.level ≡ c.args.depth = omega arith in
-    let all : l.to ≡ c.args.depth * (2 * k.DIGEST) = l.invariant.1 ∙ ap (λ (n : ℕ). n * (2 * k.DIGEST)) at-end in
-    let n : length l.pairs ≡ c.args.depth * (2 * k.DIGEST) = l.auto.pairs ∙ c.requires.pairs_long in
+    let v = l.invariant in
+    let e = c.in-None.ensures.steps in
+    let n = l.level-iterator.count in
+    let at-end : n ≡ c.args.site.depth = cut_ends k.DIGEST c.args.site.depth c.args.path.now l.level-iterator.iter.rest.now c.requires.ready.long n v.rest v.level (rw v.size at e.0.1.0) in
+    let all : n * (2 * k.DIGEST) ≡ c.args.site.depth * (2 * k.DIGEST) = ap (λ (m : ℕ). m * (2 * k.DIGEST)) at-end in
+    let long : length l.pairs ≡ c.args.site.depth * (2 * k.DIGEST) = l.auto.pairs ∙ c.requires.ready.pairs_long in
     record {
-      own = l.invariant.2 ∙ ap (own_at k.CAPACITY k.DIGEST k.mapping c.args.place c.args.own.now c.args.path.now) at-end;
-      pairs = sym (take_all l.to l.pairs (omega arith)) ∙ l.invariant.3 ∙ ap (pairs_below k.CAPACITY k.DIGEST k.mapping c.args.place c.args.own.now c.args.path.now) at-end;
+      own = v.own ∙ ap (own_at k.CAPACITY k.DIGEST k.mapping c.args.site.place c.args.own.now c.args.path.now) at-end;
+      pairs = sym (take_all (n * (2 * k.DIGEST)) l.pairs (omega arith)) ∙ v.pairs ∙ ap (pairs_below k.CAPACITY k.DIGEST k.mapping c.args.site.place c.args.own.now c.args.path.now) at-end;
     }

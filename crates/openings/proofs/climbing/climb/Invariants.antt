@@ -1,8 +1,18 @@
-use Rattle.std.proofs.Common.{◌≡◌, ◌*◌, take}
+-- What is left of the path begins at the level that comes next.
+use Rattle.std.proofs.Common.{◌≡◌, ◌*◌, ◌≤◌, take, drop}
 use Rattle.openings.specs.Opening.{own_at, pairs_below}
 use Rattle.openings.proofs.climbing.climb.Given as goal
 
 abbrev pub invariant-loop-level : goal.invariant-loop-level
 invariant-loop-level g l =
     let k = g.K.Kind in
-    (l.at ≡ l.level * k.DIGEST) × (l.to ≡ l.level * (2 * k.DIGEST)) × (l.own ≡ own_at k.CAPACITY k.DIGEST k.mapping l.place l.initial.own l.path l.level) × (take l.to l.pairs ≡ pairs_below k.CAPACITY k.DIGEST k.mapping l.place l.initial.own l.path l.level)
+    let n = l.level-iterator.count in
+    record {
+      can_next : (goal.iterator-loop-level g).can_next l.level-iterator;
+      is_finite : (goal.iterator-loop-level g).is_finite l.level-iterator;
+      size : l.level-iterator.iter.size ≡ k.DIGEST;
+      rest : l.level-iterator.iter.rest.now ≡ drop (n * k.DIGEST) l.path;
+      level : n ≤ l.site.depth;
+      own : l.own ≡ own_at k.CAPACITY k.DIGEST k.mapping l.site.place l.initial.own l.path n;
+      pairs : take (n * (2 * k.DIGEST)) l.pairs ≡ pairs_below k.CAPACITY k.DIGEST k.mapping l.site.place l.initial.own l.path n;
+    }
