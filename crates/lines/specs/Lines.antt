@@ -2,7 +2,7 @@
 use Rattle.std.specs.Prelude.{ℕ, ◌+◌, List, [], ◌∷◌, ◌++◌, map, length, take, drop, codes, decimal}
 use Rattle.std.specs.List.{flat_map}
 use Rattle.kinds.specs.declared.denial.Layer.{Layer}
-use Rattle.kinds.specs.declared.denial.Layer.TheVariants as layer
+use Rattle.kinds.specs.Denials.{layer_word}
 
 -- the bytes with a text over them from a place on
 abbrev pub put : List ℕ → ℕ → List ℕ → List ℕ
@@ -22,13 +22,6 @@ line first parts = first ++ flat_map spaced parts ++ codes "\n"
 -- a word and numbers
 abbrev pub numbers_line : List ℕ → List ℕ → List ℕ
 numbers_line word ns = line word (map decimal ns)
-
-abbrev pub layer_word : Layer → List ℕ
-layer_word layer.Lot = codes "lot"
-layer_word layer.Station = codes "station"
-layer_word layer.Word = codes "word"
-layer_word layer.Finder = codes "finder"
-layer_word layer.Script = codes "script"
 
 -- the four lines
 

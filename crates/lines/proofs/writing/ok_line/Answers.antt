@@ -1,6 +1,6 @@
 use Rattle.std.proofs.Common.{rules}
 use Rattle.lines.specs.Lines.{line}
-use Rattle.lines.proofs.writing.write_ok.Goals as goal
+use Rattle.lines.proofs.writing.ok_line.Goals as goal
 
 pub returns : goal.returns
 unfolding line
