@@ -136,7 +136,7 @@ fn answer<K: Kind>(
     depth: u8,
     command: &Command,
 ) -> io::Result<()> {
-    let w = K::digest_len();
+    let w = K::DIGEST;
     let mut root = [0u64; 16];
     match lot {
         Phase::Filling(l) => fill(rt, l, command, &mut root[0..w]),

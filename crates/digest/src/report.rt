@@ -40,9 +40,9 @@ pub(crate) fn report<K: Kind>(
     name: &str,
     words: &[u64],
 ) -> io::Result<()> {
-    let number = K::kind_number();
-    let c = K::capacity_len();
-    let w = K::digest_len();
+    let number = K::NUMBER;
+    let c = K::CAPACITY;
+    let w = K::DIGEST;
     let r = K::rate();
     let m = K::state_len();
     println!(rt; "kind: {name}, number {number}, capacity {c}, digest {w}, rate {r}, state {m}")?;

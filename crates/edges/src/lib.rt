@@ -38,7 +38,7 @@ mod tests {
     }
 
     fn lengths<K: Kind>(heap: Global, kind: &K) -> Result<(), Fail> {
-        let w = K::digest_len();
+        let w = K::DIGEST;
         let r = K::rate();
         for n in [1, r - 1, r, r + 1, 2 * r, 4096] {
             check_eq(answer(heap, kind, n, P - 1, w)?, None)?;

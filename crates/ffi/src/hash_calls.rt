@@ -44,7 +44,7 @@ pub extern "C" fn rpo160_pair(a: &[u64], b: &[u64], out: &mut [u64]) -> u8
 
 // n times: the hash of a and b goes to out, and from there to a.
 fn chain<K: Kind>(kind: &K, n: u64, a: &mut [u64], b: &[u64], out: &mut [u64]) -> u8
-    ensures { result ≡ 0 → a.new ≡ chained K.Kind.c K.Kind.w K.Kind.mapping b.now n a.old }
+    ensures { result ≡ 0 → a.new ≡ chained K.CAPACITY K.DIGEST K.mapping b.now n a.old }
 {
     if a.len() != out.len() {
         return Denial::BadBuffer.number();

@@ -46,10 +46,10 @@ fn compare<K: Kind>(
     twos: &mut [u64],
     out: &mut [u64],
 ) -> Result<Clash, Denial>
-    requires one { Ready K.Kind.w depth (words_of (option_map (λ x. x.now) first.claim)) first.path.now (length own.old) (length ones.old) }
-    requires two { Ready K.Kind.w depth (words_of (option_map (λ x. x.now) second.claim)) second.path.now (length own.old) (length twos.old) }
-    requires room { length out.old ≡ 4 * K.Kind.w }
-    ensures { (told result, shown result, out.new) ≡ judged_call K.Kind.c K.Kind.w K.Kind.mapping root.now depth place (option_map (λ x. x.now) first.entry.claim) first.entry.path.now (option_map (λ x. x.now) second.entry.claim) second.entry.path.now out.old }
+    requires one { Ready K.DIGEST depth (words_of (option_map (λ x. x.now) first.claim)) first.path.now (length own.old) (length ones.old) }
+    requires two { Ready K.DIGEST depth (words_of (option_map (λ x. x.now) second.claim)) second.path.now (length own.old) (length twos.old) }
+    requires room { length out.old ≡ 4 * K.DIGEST }
+    ensures { (told result, shown result, out.new) ≡ judged_call K.CAPACITY K.DIGEST K.mapping root.now depth place (option_map (λ x. x.now) first.entry.claim) first.entry.path.now (option_map (λ x. x.now) second.entry.claim) second.entry.path.now out.old }
 {
     let one = reach(kind, root, depth, place, first, own, ones);
     let two = reach(kind, root, depth, place, second, own, twos);
@@ -129,10 +129,10 @@ fn find_admitted<K: Kind>(
     second: Opening<'_>,
     out: &mut [u64],
 ) -> Result<Clash, Denial>
-    requires { answer (handed_causes K.Kind.w root.now depth place (option_map (λ x. x.now) first.claim) first.path.now (option_map (λ x. x.now) second.claim) second.path.now out.old) ≡ granted }
-    ensures { (told result, shown result, out.new) ≡ judged_call K.Kind.c K.Kind.w K.Kind.mapping root.now depth place (option_map (λ x. x.now) first.entry.claim) first.entry.path.now (option_map (λ x. x.now) second.entry.claim) second.entry.path.now out.old }
+    requires { answer (handed_causes K.DIGEST root.now depth place (option_map (λ x. x.now) first.claim) first.path.now (option_map (λ x. x.now) second.claim) second.path.now out.old) ≡ granted }
+    ensures { (told result, shown result, out.new) ≡ judged_call K.CAPACITY K.DIGEST K.mapping root.now depth place (option_map (λ x. x.now) first.entry.claim) first.entry.path.now (option_map (λ x. x.now) second.entry.claim) second.entry.path.now out.old }
 {
-    let w = K::digest_len();
+    let w = K::DIGEST;
     let n = depth * K::rate();
     let mut own = [0u64; 16];
     let mut ones = [0u64; 128];
@@ -162,10 +162,10 @@ pub fn find_clash<K: Kind>(
     second: Opening<'_>,
     out: &mut [u64],
 ) -> Result<Clash, Denial>
-    ensures { (told result, shown result, out.new) ≡ find_call K.Kind.c K.Kind.w K.Kind.mapping root.now depth place (option_map (λ x. x.now) first.entry.claim) first.entry.path.now (option_map (λ x. x.now) second.entry.claim) second.entry.path.now out.old }
+    ensures { (told result, shown result, out.new) ≡ find_call K.CAPACITY K.DIGEST K.mapping root.now depth place (option_map (λ x. x.now) first.entry.claim) first.entry.path.now (option_map (λ x. x.now) second.entry.claim) second.entry.path.now out.old }
 {
     let depth = depth as usize;
     let place = place as usize;
-    admit(K::digest_len(), root, depth, place, first, second, out)?;
+    admit(K::DIGEST, root, depth, place, first, second, out)?;
     find_admitted(kind, root, depth, place, first, second, out)
 }

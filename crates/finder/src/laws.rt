@@ -5,7 +5,7 @@ use kinds::kind::Kind;
 
 // The finder of any kind shows a clash exactly where there is one, and what it shows is the first from the root.
 pub fn clash_law<K: Kind>() -> u8
-    ensures { ClashLaw K.Kind.c K.Kind.w K.Kind.mapping }
+    ensures { ClashLaw K.CAPACITY K.DIGEST K.mapping }
 {
     0
 }

@@ -17,27 +17,15 @@ impl Kind for Drill {
 
     const DIGEST: usize = 1;
 
-    ghost number = { 0 };
+    ghost NUMBER = { 0 };
 
-    ghost c = { 1 };
+    ghost CAPACITY = { 1 };
 
-    ghost w = { 1 };
+    ghost DIGEST = { 1 };
 
     ghost mapping = { drill };
 
     ghost sound = { Prim.search rules };
-
-    fn kind_number() -> u8 {
-        Self::NUMBER
-    }
-
-    fn capacity_len() -> usize {
-        Self::CAPACITY
-    }
-
-    fn digest_len() -> usize {
-        Self::DIGEST
-    }
 
     fn mix(&self, state: &mut [u64]) {
         let s0 = Element { word: state[0] };

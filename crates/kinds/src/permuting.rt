@@ -8,7 +8,7 @@ use crate::words::first_bad;
 
 // Mixes a state that comes from outside.
 pub fn permute<K: Kind>(kind: &K, state: &mut [u64]) -> Result<(), Denial>
-    ensures { (told result, state.new) ≡ permute_call (K.Kind.c + 2 * K.Kind.w) K.Kind.mapping state.old }
+    ensures { (told result, state.new) ≡ permute_call (K.CAPACITY + 2 * K.DIGEST) K.mapping state.old }
 {
     if state.len() != K::state_len() {
         return Err(Denial::BadBuffer);

@@ -17,7 +17,7 @@ pub struct ClosedLot<K: Kind> {
 impl<K: Kind> ClosedLot<K> {
     // The depth, by which a caller knows how long a path is.
     pub fn depth(&self) -> usize
-        ensures exact { result ≡ (seen_closed K.Kind.w self.now).depth }
+        ensures exact { result ≡ (seen_closed K.DIGEST self.now).depth }
         ensures shallow { result ≤ 8 }
     {
         self.nodes.depth
@@ -25,14 +25,14 @@ impl<K: Kind> ClosedLot<K> {
 
     // Writes the tree value.
     pub fn root(&self, out: &mut [u64]) -> Result<(), Denial>
-        ensures { (told result, out.new) ≡ closed_root_call K.Kind.w (seen_closed K.Kind.w self.now) out.old }
+        ensures { (told result, out.new) ≡ closed_root_call K.DIGEST (seen_closed K.DIGEST self.now) out.old }
     {
         self.nodes.root::<K>(out)
     }
 
     // Writes the path of a place.
     pub fn open(&self, place: u16, out: &mut [u64]) -> Result<(), Denial>
-        ensures { (told result, out.new) ≡ open_call K.Kind.w (seen_closed K.Kind.w self.now) place out.old }
+        ensures { (told result, out.new) ≡ open_call K.DIGEST (seen_closed K.DIGEST self.now) place out.old }
     {
         self.nodes.open::<K>(place as usize, out)
     }

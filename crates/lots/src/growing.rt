@@ -12,10 +12,10 @@ use sponge::pair::{compress, overlay};
 fn hash_node<K: Kind>(kind: &K, words: &[u64], i: usize, out: &mut [u64])
     requires state { State 3584 words.now }
     requires inner { i < 256 }
-    requires out { length out.old ≡ K.Kind.w }
-    ensures { out.new ≡ two_to_one K.Kind.c K.Kind.w K.Kind.mapping (node_in K.Kind.w words.now (2 * i)) (node_in K.Kind.w words.now (2 * i + 1)) }
+    requires out { length out.old ≡ K.DIGEST }
+    ensures { out.new ≡ two_to_one K.CAPACITY K.DIGEST K.mapping (node_in K.DIGEST words.now (2 * i)) (node_in K.DIGEST words.now (2 * i + 1)) }
 {
-    let w = K::digest_len();
+    let w = K::DIGEST;
     let left = 14 * i;
     let right = 14 * i + 7;
     compress(kind, &words[left..left + w], &words[right..right + w], out);
@@ -25,8 +25,8 @@ fn hash_node<K: Kind>(kind: &K, words: &[u64], i: usize, out: &mut [u64])
 fn fill_node_in<K: Kind>(kind: &K, words: &mut [u64], i: usize, hash: &mut [u64])
     requires state { State 3584 words.old }
     requires inner { i < 256 }
-    requires hash { length hash.old ≡ K.Kind.w }
-    ensures { words.new ≡ overlaid words.old (7 * i) (two_to_one K.Kind.c K.Kind.w K.Kind.mapping (node_in K.Kind.w words.old (2 * i)) (node_in K.Kind.w words.old (2 * i + 1))) }
+    requires hash { length hash.old ≡ K.DIGEST }
+    ensures { words.new ≡ overlaid words.old (7 * i) (two_to_one K.CAPACITY K.DIGEST K.mapping (node_in K.DIGEST words.old (2 * i)) (node_in K.DIGEST words.old (2 * i + 1))) }
 {
     hash_node(kind, words, i, hash);
     overlay(words, 7 * i, hash);
@@ -36,9 +36,9 @@ fn fill_node_in<K: Kind>(kind: &K, words: &mut [u64], i: usize, hash: &mut [u64]
 fn fill_node<K: Kind>(kind: &K, words: &mut [u64], i: usize)
     requires state { State 3584 words.old }
     requires inner { i < 256 }
-    ensures { words.new ≡ overlaid words.old (7 * i) (two_to_one K.Kind.c K.Kind.w K.Kind.mapping (node_in K.Kind.w words.old (2 * i)) (node_in K.Kind.w words.old (2 * i + 1))) }
+    ensures { words.new ≡ overlaid words.old (7 * i) (two_to_one K.CAPACITY K.DIGEST K.mapping (node_in K.DIGEST words.old (2 * i)) (node_in K.DIGEST words.old (2 * i + 1))) }
 {
-    let w = K::digest_len();
+    let w = K::DIGEST;
     let mut hash = [0u64; 7];
     fill_node_in(kind, words, i, &mut hash[0..w]);
 }
@@ -47,7 +47,7 @@ fn fill_node<K: Kind>(kind: &K, words: &mut [u64], i: usize)
 pub(crate) fn grow<K: Kind>(kind: &K, words: &mut [u64], half: usize)
     requires state { State 3584 words.old }
     requires inner { half ≤ 256 }
-    ensures { Grown K.Kind.c K.Kind.w K.Kind.mapping 1 half words.old words.new }
+    ensures { Grown K.CAPACITY K.DIGEST K.mapping 1 half words.old words.new }
 {
     let mut i = half;
     while i > 1 {

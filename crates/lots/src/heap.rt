@@ -20,20 +20,20 @@ pub(crate) fn places(depth: usize) -> usize
 fn fetch<K: Kind>(words: &[u64], i: usize, out: &mut [u64; 7])
     requires table { length words.now ≡ 3584 }
     requires inside { i < 512 }
-    ensures { take K.Kind.w out.new ≡ node_in K.Kind.w words.now i }
+    ensures { take K.DIGEST out.new ≡ node_in K.DIGEST words.now i }
 {
-    let w = K::digest_len();
+    let w = K::DIGEST;
     let at = 7 * i;
     out[0..w].copy_from_slice(&words[at..at + w]);
 }
 
 // The hash of two digests, each in the front of seven words.
 fn join<K: Kind>(kind: &K, a: &[u64; 7], b: &[u64; 7], out: &mut [u64; 7])
-    requires a { State K.Kind.w (take K.Kind.w a.now) }
-    requires b { State K.Kind.w (take K.Kind.w b.now) }
-    ensures { take K.Kind.w out.new ≡ two_to_one K.Kind.c K.Kind.w K.Kind.mapping (take K.Kind.w a.now) (take K.Kind.w b.now) }
+    requires a { State K.DIGEST (take K.DIGEST a.now) }
+    requires b { State K.DIGEST (take K.DIGEST b.now) }
+    ensures { take K.DIGEST out.new ≡ two_to_one K.CAPACITY K.DIGEST K.mapping (take K.DIGEST a.now) (take K.DIGEST b.now) }
 {
-    let w = K::digest_len();
+    let w = K::DIGEST;
     compress(kind, &a[0..w], &b[0..w], &mut out[0..w]);
 }
 
@@ -41,7 +41,7 @@ fn join<K: Kind>(kind: &K, a: &[u64; 7], b: &[u64; 7], out: &mut [u64; 7])
 pub(crate) fn tree<K: Kind>(kind: &K, words: &[u64], level: usize, i: usize, out: &mut [u64; 7])
     requires state { State 3584 words.now }
     requires inside { (level ≤ 9) × (i < 2 ^ (9 - level)) }
-    ensures { take K.Kind.w out.new ≡ under K.Kind.c K.Kind.w K.Kind.mapping words.now level i }
+    ensures { take K.DIGEST out.new ≡ under K.CAPACITY K.DIGEST K.mapping words.now level i }
 {
     if level == 0 {
         fetch::<K>(words, i, out);

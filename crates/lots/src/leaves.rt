@@ -57,9 +57,9 @@ impl Leaves {
 
     fn put<K: Kind>(&mut self, place: usize, digest: &[u64])
         requires place { place < 2 ^ self.old.depth }
-        requires digest { State K.Kind.w digest.now }
+        requires digest { State K.DIGEST digest.now }
         ensures depth { self.new.depth ≡ self.old.depth }
-        ensures leaves { leaves_in K.Kind.w self.old.depth self.new.words.items ≡ slice_set (leaves_in K.Kind.w self.old.depth self.old.words.items) place digest.now }
+        ensures leaves { leaves_in K.DIGEST self.old.depth self.new.words.items ≡ slice_set (leaves_in K.DIGEST self.old.depth self.old.words.items) place digest.now }
     {
         let at = 7 * (places(self.depth) + place);
         overlay(&mut self.words, at, digest);
@@ -67,9 +67,9 @@ impl Leaves {
 
     // Puts a digest at a place; past the places nothing is put, so that no invariant has to tie a station to the depth.
     pub(crate) fn store<K: Kind>(&mut self, place: usize, digest: &[u64])
-        requires { State K.Kind.w digest.now }
+        requires { State K.DIGEST digest.now }
         ensures depth { self.new.depth ≡ self.old.depth }
-        ensures leaves { leaves_in K.Kind.w self.old.depth self.new.words.items ≡ slice_set (leaves_in K.Kind.w self.old.depth self.old.words.items) place digest.now }
+        ensures leaves { leaves_in K.DIGEST self.old.depth self.new.words.items ≡ slice_set (leaves_in K.DIGEST self.old.depth self.old.words.items) place digest.now }
     {
         if place < places(self.depth) {
             self.put::<K>(place, digest);
@@ -80,19 +80,19 @@ impl Leaves {
     pub(crate) fn clear<K: Kind>(&mut self, place: usize)
         requires { place < 2 ^ self.old.depth }
         ensures depth { self.new.depth ≡ self.old.depth }
-        ensures leaves { leaves_in K.Kind.w self.old.depth self.new.words.items ≡ slice_set (leaves_in K.Kind.w self.old.depth self.old.words.items) place (replicate K.Kind.w 0) }
+        ensures leaves { leaves_in K.DIGEST self.old.depth self.new.words.items ≡ slice_set (leaves_in K.DIGEST self.old.depth self.old.words.items) place (replicate K.DIGEST 0) }
     {
-        let w = K::digest_len();
+        let w = K::DIGEST;
         let zeros = [0u64; 7];
         self.put::<K>(place, &zeros[0..w]);
     }
 
     // The tree value.
     pub(crate) fn root<K: Kind>(&self, kind: &K, out: &mut [u64])
-        requires { length out.old ≡ K.Kind.w }
-        ensures { out.new ≡ tree_value K.Kind.c K.Kind.w K.Kind.mapping self.now.depth (leaf_at K.Kind.w (leaves_in K.Kind.w self.now.depth self.now.words.items)) }
+        requires { length out.old ≡ K.DIGEST }
+        ensures { out.new ≡ tree_value K.CAPACITY K.DIGEST K.mapping self.now.depth (leaf_at K.DIGEST (leaves_in K.DIGEST self.now.depth self.now.words.items)) }
     {
-        let w = K::digest_len();
+        let w = K::DIGEST;
         let mut value = [0u64; 7];
         tree(kind, &self.words, self.depth, 1, &mut value);
         out.copy_from_slice(&value[0..w]);
@@ -101,7 +101,7 @@ impl Leaves {
     // Fills the nodes above the leaves.
     pub(crate) fn close<K: Kind>(self, kind: &K) -> Nodes
         ensures depth { result.depth ≡ self.depth }
-        ensures nodes { nodes_in K.Kind.w self.depth result.words.items ≡ all_nodes K.Kind.c K.Kind.w K.Kind.mapping self.depth (leaf_at K.Kind.w (leaves_in K.Kind.w self.depth self.words.items)) }
+        ensures nodes { nodes_in K.DIGEST self.depth result.words.items ≡ all_nodes K.CAPACITY K.DIGEST K.mapping self.depth (leaf_at K.DIGEST (leaves_in K.DIGEST self.depth self.words.items)) }
     {
         let Leaves { depth, words } = self;
         let mut nodes = words;

@@ -23,7 +23,7 @@ pub struct Lot<K: Kind> {
 impl<K: Kind> Lot<K> {
     // Makes the lot anew, with 2^depth empty places.
     pub fn make(&mut self, depth: u8) -> Result<(), Denial>
-        ensures { (seen K.Kind.c K.Kind.w self.new, told result, []) ≡ step K.Kind.c K.Kind.w K.Kind.mapping (seen K.Kind.c K.Kind.w self.old) (making depth) }
+        ensures { (seen K.CAPACITY K.DIGEST self.new, told result, []) ≡ step K.CAPACITY K.DIGEST K.mapping (seen K.CAPACITY K.DIGEST self.old) (making depth) }
     {
         if depth > 8 {
             return Err(Denial::DepthTooLarge);
@@ -36,7 +36,7 @@ impl<K: Kind> Lot<K> {
 
     // Begins a record of that length for a place.
     pub fn begin(&mut self, station: u8, place: u16, length: u16) -> Result<(), Denial>
-        ensures { (seen K.Kind.c K.Kind.w self.new, told result, []) ≡ step K.Kind.c K.Kind.w K.Kind.mapping (seen K.Kind.c K.Kind.w self.old) (beginning station place length) }
+        ensures { (seen K.CAPACITY K.DIGEST self.new, told result, []) ≡ step K.CAPACITY K.DIGEST K.mapping (seen K.CAPACITY K.DIGEST self.old) (beginning station place length) }
     {
         if station > 7 {
             return Err(Denial::NoSuchStation);
@@ -49,7 +49,7 @@ impl<K: Kind> Lot<K> {
     }
 
     pub fn feed(&mut self, station: u8, word: u64) -> Result<(), Denial>
-        ensures { (seen K.Kind.c K.Kind.w self.new, told result, []) ≡ step K.Kind.c K.Kind.w K.Kind.mapping (seen K.Kind.c K.Kind.w self.old) (feeding station word) }
+        ensures { (seen K.CAPACITY K.DIGEST self.new, told result, []) ≡ step K.CAPACITY K.DIGEST K.mapping (seen K.CAPACITY K.DIGEST self.old) (feeding station word) }
     {
         if station > 7 {
             return Err(Denial::NoSuchStation);
@@ -59,7 +59,7 @@ impl<K: Kind> Lot<K> {
 
     // Eight words, all or none.
     pub fn feed_eight(&mut self, station: u8, words: &[u64; 8]) -> Result<(), Denial>
-        ensures { (seen K.Kind.c K.Kind.w self.new, told result, []) ≡ step K.Kind.c K.Kind.w K.Kind.mapping (seen K.Kind.c K.Kind.w self.old) (feeding_eight station words.now) }
+        ensures { (seen K.CAPACITY K.DIGEST self.new, told result, []) ≡ step K.CAPACITY K.DIGEST K.mapping (seen K.CAPACITY K.DIGEST self.old) (feeding_eight station words.now) }
     {
         if station > 7 {
             return Err(Denial::NoSuchStation);
@@ -70,8 +70,8 @@ impl<K: Kind> Lot<K> {
 
     // As `seal`, with room for the digest.
     fn seal_in(&mut self, station: u8, digest: &mut [u64]) -> Result<(), Denial>
-        requires { (station < 8) × (long digest.old ≡ K.Kind.w) }
-        ensures { (seen K.Kind.c K.Kind.w self.new, told result, []) ≡ step K.Kind.c K.Kind.w K.Kind.mapping (seen K.Kind.c K.Kind.w self.old) (sealing station) }
+        requires { (station < 8) × (long digest.old ≡ K.DIGEST) }
+        ensures { (seen K.CAPACITY K.DIGEST self.new, told result, []) ≡ step K.CAPACITY K.DIGEST K.mapping (seen K.CAPACITY K.DIGEST self.old) (sealing station) }
     {
         let place = self.stations.seal(station as usize, &self.kind, digest)?;
         self.leaves.store::<K>(place, digest);
@@ -80,19 +80,19 @@ impl<K: Kind> Lot<K> {
 
     // Puts the digest of the record in hand at its place.
     pub fn seal(&mut self, station: u8) -> Result<(), Denial>
-        ensures { (seen K.Kind.c K.Kind.w self.new, told result, []) ≡ step K.Kind.c K.Kind.w K.Kind.mapping (seen K.Kind.c K.Kind.w self.old) (sealing station) }
+        ensures { (seen K.CAPACITY K.DIGEST self.new, told result, []) ≡ step K.CAPACITY K.DIGEST K.mapping (seen K.CAPACITY K.DIGEST self.old) (sealing station) }
     {
         if station > 7 {
             return Err(Denial::NoSuchStation);
         }
-        let w = K::digest_len();
+        let w = K::DIGEST;
         let mut digest = [0u64; 7];
         self.seal_in(station, &mut digest[0..w])
     }
 
     // Drops the record in hand.
     pub fn abandon(&mut self, station: u8) -> Result<(), Denial>
-        ensures { (seen K.Kind.c K.Kind.w self.new, told result, []) ≡ step K.Kind.c K.Kind.w K.Kind.mapping (seen K.Kind.c K.Kind.w self.old) (abandoning station) }
+        ensures { (seen K.CAPACITY K.DIGEST self.new, told result, []) ≡ step K.CAPACITY K.DIGEST K.mapping (seen K.CAPACITY K.DIGEST self.old) (abandoning station) }
     {
         if station > 7 {
             return Err(Denial::NoSuchStation);
@@ -102,7 +102,7 @@ impl<K: Kind> Lot<K> {
 
     // Empties a place.
     pub fn clear(&mut self, place: u16) -> Result<(), Denial>
-        ensures { (seen K.Kind.c K.Kind.w self.new, told result, []) ≡ step K.Kind.c K.Kind.w K.Kind.mapping (seen K.Kind.c K.Kind.w self.old) (clearing place) }
+        ensures { (seen K.CAPACITY K.DIGEST self.new, told result, []) ≡ step K.CAPACITY K.DIGEST K.mapping (seen K.CAPACITY K.DIGEST self.old) (clearing place) }
     {
         if place as usize >= self.leaves.size() {
             return Err(Denial::NoSuchPlace);
@@ -113,9 +113,9 @@ impl<K: Kind> Lot<K> {
 
     // Writes the tree value.
     pub fn root(&self, out: &mut [u64]) -> Result<(), Denial>
-        ensures { (seen K.Kind.c K.Kind.w self.now, told result, out.new) ≡ step K.Kind.c K.Kind.w K.Kind.mapping (seen K.Kind.c K.Kind.w self.now) (rooting out.old) }
+        ensures { (seen K.CAPACITY K.DIGEST self.now, told result, out.new) ≡ step K.CAPACITY K.DIGEST K.mapping (seen K.CAPACITY K.DIGEST self.now) (rooting out.old) }
     {
-        if out.len() != K::digest_len() {
+        if out.len() != K::DIGEST {
             return Err(Denial::BadBuffer);
         }
         self.leaves.root(&self.kind, out);
@@ -124,7 +124,7 @@ impl<K: Kind> Lot<K> {
 
     // Ends the filling: records in hand are abandoned, and all nodes are worked out, in the table that had the leaves.
     pub fn close(self) -> ClosedLot<K>
-        ensures { seen_closed K.Kind.w result ≡ closed K.Kind.c K.Kind.w K.Kind.mapping (seen K.Kind.c K.Kind.w self) }
+        ensures { seen_closed K.DIGEST result ≡ closed K.CAPACITY K.DIGEST K.mapping (seen K.CAPACITY K.DIGEST self) }
     {
         let Lot {
             kind,
@@ -139,7 +139,7 @@ impl<K: Kind> Lot<K> {
 impl<K: Kind + Drop> Lot<K> {
     // An empty lot of depth 0.
     pub fn new(heap: Global, kind: K) -> Result<Lot<K>, AllocError>
-        ensures { IfOk result (λ l. seen K.Kind.c K.Kind.w l ≡ newly_made K.Kind.w 0) }
+        ensures { IfOk result (λ l. seen K.CAPACITY K.DIGEST l ≡ newly_made K.DIGEST 0) }
     {
         let leaves = Leaves::new(heap)?;
         Ok(Lot {

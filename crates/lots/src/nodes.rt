@@ -56,9 +56,9 @@ fn path(words: &[u64], w: usize, levels: usize, node: usize, out: &mut [u64])
 impl Nodes {
     // Copies the root.
     pub(crate) fn root<K: Kind>(&self, out: &mut [u64]) -> Result<(), Denial>
-        ensures { (told result, out.new) ≡ closed_root_call K.Kind.w (closed_in K.Kind.w self.now.depth self.now.words.items) out.old }
+        ensures { (told result, out.new) ≡ closed_root_call K.DIGEST (closed_in K.DIGEST self.now.depth self.now.words.items) out.old }
     {
-        if out.len() != K::digest_len() {
+        if out.len() != K::DIGEST {
             return Err(Denial::BadBuffer);
         }
         read_node(&self.words, 1, out);
@@ -67,13 +67,13 @@ impl Nodes {
 
     // Copies the siblings of the nodes on the way from a place to the root.
     pub(crate) fn open<K: Kind>(&self, place: usize, out: &mut [u64]) -> Result<(), Denial>
-        ensures { (told result, out.new) ≡ open_call K.Kind.w (closed_in K.Kind.w self.now.depth self.now.words.items) place out.old }
+        ensures { (told result, out.new) ≡ open_call K.DIGEST (closed_in K.DIGEST self.now.depth self.now.words.items) place out.old }
     {
         let half = places(self.depth);
         if place >= half {
             return Err(Denial::NoSuchPlace);
         }
-        let w = K::digest_len();
+        let w = K::DIGEST;
         if out.len() != self.depth * w {
             return Err(Denial::BadBuffer);
         }

@@ -9,21 +9,21 @@ use kinds::kind::Kind;
 
 // After any calls, a lot of any kind keeps the last record of each place, and its answers are told by the history.
 pub fn lot_laws<K: Kind>() -> u8
-    ensures { LotLaws K.Kind.c K.Kind.w K.Kind.mapping }
+    ensures { LotLaws K.CAPACITY K.DIGEST K.mapping }
 {
     0
 }
 
 // A closed lot of any kind has the nodes of its tree, and writes the tree value and the path of each place.
 pub fn closed_laws<K: Kind>() -> u8
-    ensures { ClosedLaws K.Kind.c K.Kind.w K.Kind.mapping }
+    ensures { ClosedLaws K.CAPACITY K.DIGEST K.mapping }
 {
     0
 }
 
 // The order in which stations work reaches no root and no path.
 pub fn order_law<K: Kind>() -> u8
-    ensures { Order K.Kind.c K.Kind.w K.Kind.mapping }
+    ensures { Order K.CAPACITY K.DIGEST K.mapping }
 {
     0
 }

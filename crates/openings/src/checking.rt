@@ -57,10 +57,10 @@ fn admit(
 
 // Whether an opening that is admitted comes to the root.
 fn opens<K: Kind>(kind: &K, root: &[u64], depth: usize, place: usize, opening: Opening<'_>) -> bool
-    requires { check_answer K.Kind.w root.now depth place (option_map (λ x. x.now) opening.claim) opening.path.now ≡ granted }
-    ensures { result ≡ reaches K.Kind.c K.Kind.w K.Kind.mapping root.now depth place (option_map (λ x. x.now) opening.entry.claim) opening.entry.path.now }
+    requires { check_answer K.DIGEST root.now depth place (option_map (λ x. x.now) opening.claim) opening.path.now ≡ granted }
+    ensures { result ≡ reaches K.CAPACITY K.DIGEST K.mapping root.now depth place (option_map (λ x. x.now) opening.entry.claim) opening.entry.path.now }
 {
-    let w = K::digest_len();
+    let w = K::DIGEST;
     let n = depth * K::rate();
     let mut own = [0u64; 16];
     let mut pairs = [0u64; 128];
@@ -84,11 +84,11 @@ pub fn check<'a, K: Kind>(
     claim: Option<&'a [u64]>,
     path: &'a [u64],
 ) -> Result<bool, Denial>
-    ensures { (told result, accepted result) ≡ check_call K.Kind.c K.Kind.w K.Kind.mapping root.now depth place (option_map (λ x. x.now) claim.entry) path.now }
+    ensures { (told result, accepted result) ≡ check_call K.CAPACITY K.DIGEST K.mapping root.now depth place (option_map (λ x. x.now) claim.entry) path.now }
 {
     let depth = depth as usize;
     let place = place as usize;
     let opening = Opening { claim, path };
-    admit(K::digest_len(), root, depth, place, opening)?;
+    admit(K::DIGEST, root, depth, place, opening)?;
     Ok(opens(kind, root, depth, place, opening))
 }

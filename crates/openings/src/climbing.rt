@@ -16,8 +16,8 @@ use sponge::pair::{compress, overlay};
 // The leaf of a claim.
 fn leaf_of<K: Kind>(kind: &K, claim: Option<&[u64]>, own: &mut [u64])
     requires each { Elements (words_of (option_map (λ x. x.now) claim)) }
-    requires long { length own.old ≡ K.Kind.w }
-    ensures { own.new ≡ leaf K.Kind.c K.Kind.w K.Kind.mapping (option_map (λ x. x.now) claim.entry) }
+    requires long { length own.old ≡ K.DIGEST }
+    ensures { own.new ≡ leaf K.CAPACITY K.DIGEST K.mapping (option_map (λ x. x.now) claim.entry) }
 {
     match claim {
         Some(words) => digest_elements(kind, words, own),
@@ -49,20 +49,20 @@ fn lay_pair(right: bool, own: &[u64], sibling: &[u64], pair: &mut [u64])
 
 // The two-to-one hash of a pair.
 fn hash_pair<K: Kind>(kind: &K, pair: &[u64], own: &mut [u64])
-    requires pair { State (2 * K.Kind.w) pair.now }
-    requires long { length own.old ≡ K.Kind.w }
-    ensures { own.new ≡ two_to_one K.Kind.c K.Kind.w K.Kind.mapping (take K.Kind.w pair.now) (drop K.Kind.w pair.now) }
+    requires pair { State (2 * K.DIGEST) pair.now }
+    requires long { length own.old ≡ K.DIGEST }
+    ensures { own.new ≡ two_to_one K.CAPACITY K.DIGEST K.mapping (take K.DIGEST pair.now) (drop K.DIGEST pair.now) }
 {
-    let w = K::digest_len();
+    let w = K::DIGEST;
     compress(kind, &pair[0..w], &pair[w..2 * w], own);
 }
 
 // One level up; the pair is left in `pair`.
 fn step<K: Kind>(kind: &K, right: bool, own: &mut [u64], sibling: &[u64], pair: &mut [u64])
-    requires own { State K.Kind.w own.old }
-    requires sibling { State K.Kind.w sibling.now }
-    requires room { length pair.old ≡ 2 * K.Kind.w }
-    ensures own { own.new ≡ hash_of K.Kind.c K.Kind.w K.Kind.mapping (paired right own.old sibling.now) }
+    requires own { State K.DIGEST own.old }
+    requires sibling { State K.DIGEST sibling.now }
+    requires room { length pair.old ≡ 2 * K.DIGEST }
+    ensures own { own.new ≡ hash_of K.CAPACITY K.DIGEST K.mapping (paired right own.old sibling.now) }
     ensures pair { pair.new ≡ flat (paired right own.old sibling.now) }
 {
     lay_pair(right, own, sibling, pair);
@@ -78,11 +78,11 @@ fn climb<K: Kind>(
     path: &[u64],
     pairs: &mut [u64],
 )
-    requires { Ready K.Kind.w depth own.old path.now (length own.old) (length pairs.old) }
-    ensures own { own.new ≡ own_at K.Kind.c K.Kind.w K.Kind.mapping place own.old path.now depth }
-    ensures pairs { pairs.new ≡ pairs_below K.Kind.c K.Kind.w K.Kind.mapping place own.old path.now depth }
+    requires { Ready K.DIGEST depth own.old path.now (length own.old) (length pairs.old) }
+    ensures own { own.new ≡ own_at K.CAPACITY K.DIGEST K.mapping place own.old path.now depth }
+    ensures pairs { pairs.new ≡ pairs_below K.CAPACITY K.DIGEST K.mapping place own.old path.now depth }
 {
-    let w = K::digest_len();
+    let w = K::DIGEST;
     let mut at = 0;
     let mut to = 0;
     for level in 0..depth {
@@ -108,9 +108,9 @@ pub fn reach<K: Kind>(
     own: &mut [u64],
     pairs: &mut [u64],
 ) -> bool
-    requires { Ready K.Kind.w depth (words_of (option_map (λ x. x.now) opening.claim)) opening.path.now (length own.old) (length pairs.old) }
-    ensures answer { result ≡ reaches K.Kind.c K.Kind.w K.Kind.mapping root.now depth place (option_map (λ x. x.now) opening.entry.claim) opening.entry.path.now }
-    ensures pairs { pairs.new ≡ pairs_below K.Kind.c K.Kind.w K.Kind.mapping place (leaf K.Kind.c K.Kind.w K.Kind.mapping (option_map (λ x. x.now) opening.entry.claim)) opening.entry.path.now depth }
+    requires { Ready K.DIGEST depth (words_of (option_map (λ x. x.now) opening.claim)) opening.path.now (length own.old) (length pairs.old) }
+    ensures answer { result ≡ reaches K.CAPACITY K.DIGEST K.mapping root.now depth place (option_map (λ x. x.now) opening.entry.claim) opening.entry.path.now }
+    ensures pairs { pairs.new ≡ pairs_below K.CAPACITY K.DIGEST K.mapping place (leaf K.CAPACITY K.DIGEST K.mapping (option_map (λ x. x.now) opening.entry.claim)) opening.entry.path.now depth }
 {
     leaf_of(kind, opening.claim, own);
     climb(kind, depth, place, own, opening.path, pairs);

@@ -7,7 +7,7 @@ use kinds::kind::Kind;
 
 // For every kind, from its law alone.
 pub fn promises<K: Kind>() -> u8
-    ensures { Promises K.Kind.c K.Kind.w K.Kind.mapping }
+    ensures { Promises K.CAPACITY K.DIGEST K.mapping }
 {
     0
 }

@@ -35,11 +35,11 @@ impl Kind for Rpo128 {
 
     const DIGEST: usize = 4;
 
-    ghost number = { 1 };
+    ghost NUMBER = { 1 };
 
-    ghost c = { 4 };
+    ghost CAPACITY = { 4 };
 
-    ghost w = { 4 };
+    ghost DIGEST = { 4 };
 
     ghost mapping = { rpo_128 };
 
@@ -52,18 +52,6 @@ impl Kind for Rpo128 {
           keeps = forward_state row_12 (constants_named text_128 168) 7;
         } };
 
-    fn kind_number() -> u8 {
-        Self::NUMBER
-    }
-
-    fn capacity_len() -> usize {
-        Self::CAPACITY
-    }
-
-    fn digest_len() -> usize {
-        Self::DIGEST
-    }
-
     fn mix(&self, state: &mut [u64]) {
         let mut s = [0u64; 12];
         s.copy_from_slice(state);
@@ -73,13 +61,7 @@ impl Kind for Rpo128 {
 }
 
 impl Reversible for Rpo128 {
-    ghost size = { 12 };
-
     ghost back = { rpo_128_back };
-
-    fn size_of_state() -> usize {
-        12
-    }
 
     #[tactic(auto, using(crate::proofs::Named::below_elements), unfolding(crate::specs::Mappings::rpo_128_back))]
     fn unmix(&self, state: &mut [u64]) {

@@ -35,11 +35,11 @@ impl Kind for Rpo160 {
 
     const DIGEST: usize = 5;
 
-    ghost number = { 2 };
+    ghost NUMBER = { 2 };
 
-    ghost c = { 6 };
+    ghost CAPACITY = { 6 };
 
-    ghost w = { 5 };
+    ghost DIGEST = { 5 };
 
     ghost mapping = { rpo_160 };
 
@@ -52,18 +52,6 @@ impl Kind for Rpo160 {
           keeps = forward_state row_16 (constants_named text_160 224) 7;
         } };
 
-    fn kind_number() -> u8 {
-        Self::NUMBER
-    }
-
-    fn capacity_len() -> usize {
-        Self::CAPACITY
-    }
-
-    fn digest_len() -> usize {
-        Self::DIGEST
-    }
-
     fn mix(&self, state: &mut [u64]) {
         let mut s = [0u64; 16];
         s.copy_from_slice(state);
@@ -73,13 +61,7 @@ impl Kind for Rpo160 {
 }
 
 impl Reversible for Rpo160 {
-    ghost size = { 16 };
-
     ghost back = { rpo_160_back };
-
-    fn size_of_state() -> usize {
-        16
-    }
 
     #[tactic(auto, using(crate::proofs::Named::below_elements), unfolding(crate::specs::Mappings::rpo_160_back))]
     fn unmix(&self, state: &mut [u64]) {

@@ -22,7 +22,7 @@ pub struct Waiting {
 
 // The lot, made anew.
 fn made<K: Kind + Drop>(lot: Lot<K>, depth: u8) -> Result<Lot<K>, Denial>
-    ensures { shown_made K.Kind.c K.Kind.w result ≡ new_lot K.Kind.w depth }
+    ensures { shown_made K.CAPACITY K.DIGEST result ≡ new_lot K.DIGEST depth }
 {
     let mut lot = lot;
     lot.make(depth)?;

@@ -15,7 +15,7 @@ pub const LONGEST: usize = 4096;
 
 // Where capacity element 0 starts for a record of that length.
 pub fn start_for<K: Kind>(length: usize) -> Element
-    ensures { result.word ≡ start_of K.Kind.w length }
+    ensures { result.word ≡ start_of K.DIGEST length }
 {
     if length % K::rate() == 0 {
         Element { word: 0 }
@@ -27,8 +27,8 @@ pub fn start_for<K: Kind>(length: usize) -> Element
 // The digest of a record that is known to be one.
 pub fn digest_elements<K: Kind>(kind: &K, words: &[u64], out: &mut [u64])
     requires each { Elements words.now }
-    requires long { length out.old ≡ K.Kind.w }
-    ensures { out.new ≡ digest_of K.Kind.c K.Kind.w K.Kind.mapping words.now }
+    requires long { length out.old ≡ K.DIGEST }
+    ensures { out.new ≡ digest_of K.CAPACITY K.DIGEST K.mapping words.now }
 {
     let mut sponge = Sponge::start::<K>(start_for::<K>(words.len()));
     sponge.absorb_all(kind, words);
@@ -37,12 +37,12 @@ pub fn digest_elements<K: Kind>(kind: &K, words: &[u64], out: &mut [u64])
 
 // The digest of a record.
 pub fn digest<K: Kind>(kind: &K, words: &[u64], out: &mut [u64]) -> Result<(), Denial>
-    ensures { (told result, out.new) ≡ digest_call K.Kind.c K.Kind.w K.Kind.mapping words.now out.old }
+    ensures { (told result, out.new) ≡ digest_call K.CAPACITY K.DIGEST K.mapping words.now out.old }
 {
     if words.len() == 0 || words.len() > LONGEST {
         return Err(Denial::BadLength);
     }
-    if out.len() != K::digest_len() {
+    if out.len() != K::DIGEST {
         return Err(Denial::BadBuffer);
     }
     let bad = first_bad(words);

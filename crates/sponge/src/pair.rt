@@ -20,14 +20,14 @@ pub fn overlay(all: &mut [u64], at: usize, words: &[u64])
 
 // As `compress`, in a state of zeros that the caller owns.
 fn compress_in<K: Kind>(kind: &K, state: &mut [u64], a: &[u64], b: &[u64], out: &mut [u64])
-    requires a { State K.Kind.w a.now }
-    requires b { State K.Kind.w b.now }
-    requires out { length out.old ≡ K.Kind.w }
-    requires zeros { state.old ≡ replicate (K.Kind.c + 2 * K.Kind.w) 0 }
-    ensures { out.new ≡ two_to_one K.Kind.c K.Kind.w K.Kind.mapping a.now b.now }
+    requires a { State K.DIGEST a.now }
+    requires b { State K.DIGEST b.now }
+    requires out { length out.old ≡ K.DIGEST }
+    requires zeros { state.old ≡ replicate (K.CAPACITY + 2 * K.DIGEST) 0 }
+    ensures { out.new ≡ two_to_one K.CAPACITY K.DIGEST K.mapping a.now b.now }
 {
-    let c = K::capacity_len();
-    let w = K::digest_len();
+    let c = K::CAPACITY;
+    let w = K::DIGEST;
     overlay(state, c, a);
     overlay(state, c + w, b);
     kind.mix(state);
@@ -36,10 +36,10 @@ fn compress_in<K: Kind>(kind: &K, state: &mut [u64], a: &[u64], b: &[u64], out: 
 
 // The two-to-one hash of what is known to be two digests.
 pub fn compress<K: Kind>(kind: &K, a: &[u64], b: &[u64], out: &mut [u64])
-    requires a { State K.Kind.w a.now }
-    requires b { State K.Kind.w b.now }
-    requires out { length out.old ≡ K.Kind.w }
-    ensures { out.new ≡ two_to_one K.Kind.c K.Kind.w K.Kind.mapping a.now b.now }
+    requires a { State K.DIGEST a.now }
+    requires b { State K.DIGEST b.now }
+    requires out { length out.old ≡ K.DIGEST }
+    ensures { out.new ≡ two_to_one K.CAPACITY K.DIGEST K.mapping a.now b.now }
 {
     let m = K::state_len();
     let mut state = [0u64; 16];
@@ -48,9 +48,9 @@ pub fn compress<K: Kind>(kind: &K, a: &[u64], b: &[u64], out: &mut [u64])
 
 // The two-to-one hash of two digests.
 pub fn two_to_one<K: Kind>(kind: &K, a: &[u64], b: &[u64], out: &mut [u64]) -> Result<(), Denial>
-    ensures { (told result, out.new) ≡ pair_call K.Kind.c K.Kind.w K.Kind.mapping a.now b.now out.old }
+    ensures { (told result, out.new) ≡ pair_call K.CAPACITY K.DIGEST K.mapping a.now b.now out.old }
 {
-    let w = K::digest_len();
+    let w = K::DIGEST;
     if a.len() != w || b.len() != w || out.len() != w {
         return Err(Denial::BadBuffer);
     }

@@ -30,7 +30,7 @@ impl<S> Stations<S> {
 impl Stations {
     // Eight idle stations.
     pub fn new<K: Kind>() -> Stations
-        ensures { all_shown K.Kind.c K.Kind.w result.table ≡ replicate 8 idle }
+        ensures { all_shown K.CAPACITY K.DIGEST result.table ≡ replicate 8 idle }
     {
         let one = Station::new::<K>();
         Stations { table: [one; 8] }
@@ -38,14 +38,14 @@ impl Stations {
 
     pub fn begin<K: Kind>(&mut self, i: usize, place: usize, length: usize) -> Result<(), Denial>
         requires { i < 8 }
-        ensures { (all_shown K.Kind.c K.Kind.w self.new.table, told result) ≡ at_one (all_shown K.Kind.c K.Kind.w self.old.table) i (λ h. begin_step K.Kind.c K.Kind.w K.Kind.mapping h place length) }
+        ensures { (all_shown K.CAPACITY K.DIGEST self.new.table, told result) ≡ at_one (all_shown K.CAPACITY K.DIGEST self.old.table) i (λ h. begin_step K.CAPACITY K.DIGEST K.mapping h place length) }
     {
         self.station(i).begin::<K>(place, length)
     }
 
     pub fn feed<K: Kind>(&mut self, i: usize, kind: &K, word: u64) -> Result<(), Denial>
         requires { i < 8 }
-        ensures { (all_shown K.Kind.c K.Kind.w self.new.table, told result) ≡ at_one (all_shown K.Kind.c K.Kind.w self.old.table) i (λ h. feed_step K.Kind.c K.Kind.w K.Kind.mapping h (word ∷ [])) }
+        ensures { (all_shown K.CAPACITY K.DIGEST self.new.table, told result) ≡ at_one (all_shown K.CAPACITY K.DIGEST self.old.table) i (λ h. feed_step K.CAPACITY K.DIGEST K.mapping h (word ∷ [])) }
     {
         self.station(i).feed(kind, word)
     }
@@ -57,23 +57,23 @@ impl Stations {
         words: &[u64; 8],
     ) -> Result<(), Denial>
         requires { i < 8 }
-        ensures { (all_shown K.Kind.c K.Kind.w self.new.table, told result) ≡ at_one (all_shown K.Kind.c K.Kind.w self.old.table) i (λ h. feed_step K.Kind.c K.Kind.w K.Kind.mapping h words.now) }
+        ensures { (all_shown K.CAPACITY K.DIGEST self.new.table, told result) ≡ at_one (all_shown K.CAPACITY K.DIGEST self.old.table) i (λ h. feed_step K.CAPACITY K.DIGEST K.mapping h words.now) }
     {
         self.station(i).feed_eight(kind, words)
     }
 
     // The place of the record in hand at station i, with its digest in `out`.
     pub fn seal<K: Kind>(&mut self, i: usize, kind: &K, out: &mut [u64]) -> Result<usize, Denial>
-        requires { (i < 8) × (long out.old ≡ K.Kind.w) }
-        ensures step { (all_shown K.Kind.c K.Kind.w self.new.table, told result) ≡ at_one (all_shown K.Kind.c K.Kind.w self.old.table) i seal_step }
-        ensures sealed { IfOk result (λ p. Sealed K.Kind.c K.Kind.w K.Kind.mapping (slice_index_or (all_shown K.Kind.c K.Kind.w self.old.table) i idle) p out.new) }
+        requires { (i < 8) × (long out.old ≡ K.DIGEST) }
+        ensures step { (all_shown K.CAPACITY K.DIGEST self.new.table, told result) ≡ at_one (all_shown K.CAPACITY K.DIGEST self.old.table) i seal_step }
+        ensures sealed { IfOk result (λ p. Sealed K.CAPACITY K.DIGEST K.mapping (slice_index_or (all_shown K.CAPACITY K.DIGEST self.old.table) i idle) p out.new) }
     {
         self.station(i).seal(kind, out)
     }
 
     pub fn abandon<K: Kind>(&mut self, i: usize) -> Result<(), Denial>
         requires { i < 8 }
-        ensures { (all_shown K.Kind.c K.Kind.w self.new.table, told result) ≡ at_one (all_shown K.Kind.c K.Kind.w self.old.table) i abandon_step }
+        ensures { (all_shown K.CAPACITY K.DIGEST self.new.table, told result) ≡ at_one (all_shown K.CAPACITY K.DIGEST self.old.table) i abandon_step }
     {
         self.station(i).abandon()
     }

@@ -12,26 +12,26 @@ use reader::orders::Order;
 // The line of the tree value, with room for it.
 fn root_into<K: Kind>(lot: &Lot<K>, words: &mut [u64], at: usize, out: &mut [u8]) -> usize
     requires { (1024 ≤ long out.old) × (long words.old ≤ 40) }
-    ensures { Lined (root_told K.Kind.c K.Kind.w K.Kind.mapping (seen K.Kind.c K.Kind.w lot.now) words.old at) out.old out.new result }
+    ensures { Lined (root_told K.CAPACITY K.DIGEST K.mapping (seen K.CAPACITY K.DIGEST lot.now) words.old at) out.old out.new result }
 {
     let answer = lot.root(words);
     write_root_answer(answer, words, at, out)
 }
 
 fn root_line<K: Kind>(lot: &Lot<K>, at: usize, out: &mut [u8]) -> usize
-    requires { (1024 ≤ long out.old) × (K.Kind.w ≤ 5) }
-    ensures { Lined (root_told K.Kind.c K.Kind.w K.Kind.mapping (seen K.Kind.c K.Kind.w lot.now) (replicate K.Kind.w 0) at) out.old out.new result }
+    requires { (1024 ≤ long out.old) × (K.DIGEST ≤ 5) }
+    ensures { Lined (root_told K.CAPACITY K.DIGEST K.mapping (seen K.CAPACITY K.DIGEST lot.now) (replicate K.DIGEST 0) at) out.old out.new result }
 {
-    let w = K::digest_len();
+    let w = K::DIGEST;
     let mut words = [0u64; 5];
     root_into(lot, &mut words[0..w], at, out)
 }
 
 // Runs a command that is in its phase, and writes its line.
 pub fn fill<K: Kind>(lot: &mut Lot<K>, order: Order, at: usize, out: &mut [u8]) -> usize
-    requires { (1024 ≤ long out.old) × (K.Kind.w ≤ 5) }
-    ensures after { seen K.Kind.c K.Kind.w lot.new ≡ (filled K.Kind.c K.Kind.w K.Kind.mapping (seen K.Kind.c K.Kind.w lot.old) order at).0 }
-    ensures line { Lined (filled K.Kind.c K.Kind.w K.Kind.mapping (seen K.Kind.c K.Kind.w lot.old) order at).1 out.old out.new result }
+    requires { (1024 ≤ long out.old) × (K.DIGEST ≤ 5) }
+    ensures after { seen K.CAPACITY K.DIGEST lot.new ≡ (filled K.CAPACITY K.DIGEST K.mapping (seen K.CAPACITY K.DIGEST lot.old) order at).0 }
+    ensures line { Lined (filled K.CAPACITY K.DIGEST K.mapping (seen K.CAPACITY K.DIGEST lot.old) order at).1 out.old out.new result }
 {
     match order {
         Order::Begin {

@@ -13,11 +13,11 @@ const BLOCK_EDGE: usize = 0;
 
 // One element into a state that has `at` elements of its block; how many it has then.
 fn overwrite<K: Kind>(kind: &K, state: &mut [u64], at: usize, word: u64) -> usize
-    requires fair { Fair K.Kind.c K.Kind.w (state.old, at) }
+    requires fair { Fair K.CAPACITY K.DIGEST (state.old, at) }
     requires small { word < p }
-    ensures { (state.new, result) ≡ fed K.Kind.c K.Kind.w K.Kind.mapping (state.old, at) word }
+    ensures { (state.new, result) ≡ fed K.CAPACITY K.DIGEST K.mapping (state.old, at) word }
 {
-    state[K::capacity_len() + at] = word;
+    state[K::CAPACITY + at] = word;
     if at + 1 == K::rate() {
         kind.mix(state);
         0
@@ -29,7 +29,7 @@ fn overwrite<K: Kind>(kind: &K, state: &mut [u64], at: usize, word: u64) -> usiz
 impl Sponge {
     // A sponge whose capacity element 0 is `first`.
     pub fn start<K: Kind>(first: Element) -> Sponge
-        ensures { held K.Kind.c K.Kind.w result ≡ begun K.Kind.c K.Kind.w first.word }
+        ensures { held K.CAPACITY K.DIGEST result ≡ begun K.CAPACITY K.DIGEST first.word }
     {
         let mut state = [0u64; 16];
         state[0] = first.word;
@@ -38,7 +38,7 @@ impl Sponge {
 
     // One element more.
     pub fn absorb<K: Kind>(&mut self, kind: &K, element: Element)
-        ensures { held K.Kind.c K.Kind.w self.new ≡ fed K.Kind.c K.Kind.w K.Kind.mapping (held K.Kind.c K.Kind.w self.old) element.word }
+        ensures { held K.CAPACITY K.DIGEST self.new ≡ fed K.CAPACITY K.DIGEST K.mapping (held K.CAPACITY K.DIGEST self.old) element.word }
     {
         let m = K::state_len();
         let at = self.filled % K::rate();
@@ -48,7 +48,7 @@ impl Sponge {
     // Elements, one by one.
     pub fn absorb_all<K: Kind>(&mut self, kind: &K, words: &[u64])
         requires { Elements words.now }
-        ensures { held K.Kind.c K.Kind.w self.new ≡ fed_all K.Kind.c K.Kind.w K.Kind.mapping (held K.Kind.c K.Kind.w self.old) words.now }
+        ensures { held K.CAPACITY K.DIGEST self.new ≡ fed_all K.CAPACITY K.DIGEST K.mapping (held K.CAPACITY K.DIGEST self.old) words.now }
     {
         for x in words {
             self.absorb(kind, Element { word: *x });
@@ -57,7 +57,7 @@ impl Sponge {
 
     // Fills the last block up, if one is begun.
     fn fill_up<K: Kind>(&mut self, kind: &K)
-        ensures { held K.Kind.c K.Kind.w self.new ≡ fed_all K.Kind.c K.Kind.w K.Kind.mapping (held K.Kind.c K.Kind.w self.old) (filling K.Kind.w (held K.Kind.c K.Kind.w self.old).1) }
+        ensures { held K.CAPACITY K.DIGEST self.new ≡ fed_all K.CAPACITY K.DIGEST K.mapping (held K.CAPACITY K.DIGEST self.old) (filling K.DIGEST (held K.CAPACITY K.DIGEST self.old).1) }
     {
         let r = K::rate();
         let at = self.filled % r;
@@ -72,12 +72,12 @@ impl Sponge {
 
     // Fills the last block up, and writes the digest.
     pub fn finish<K: Kind>(&mut self, kind: &K, out: &mut [u64])
-        requires { length out.old ≡ K.Kind.w }
-        ensures { out.new ≡ finished K.Kind.c K.Kind.w K.Kind.mapping (held K.Kind.c K.Kind.w self.old) }
+        requires { length out.old ≡ K.DIGEST }
+        ensures { out.new ≡ finished K.CAPACITY K.DIGEST K.mapping (held K.CAPACITY K.DIGEST self.old) }
     {
         self.fill_up(kind);
-        let c = K::capacity_len();
-        let w = K::digest_len();
+        let c = K::CAPACITY;
+        let w = K::DIGEST;
         out.copy_from_slice(&self.state[c..c + w]);
     }
 }

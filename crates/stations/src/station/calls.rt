@@ -31,7 +31,7 @@ fn phase_at(place: usize, length: usize, got: usize) -> Phase
 
 impl Station {
     pub(crate) fn new<K: Kind>() -> Station
-        ensures { shown K.Kind.c K.Kind.w result ≡ idle }
+        ensures { shown K.CAPACITY K.DIGEST result ≡ idle }
     {
         Station {
             phase: Phase::Idle,
@@ -40,7 +40,7 @@ impl Station {
     }
 
     pub(crate) fn begin<K: Kind>(&mut self, place: usize, length: usize) -> Result<(), Denial>
-        ensures { (shown K.Kind.c K.Kind.w self.new, told result) ≡ begin_step K.Kind.c K.Kind.w K.Kind.mapping (shown K.Kind.c K.Kind.w self.old) place length }
+        ensures { (shown K.CAPACITY K.DIGEST self.new, told result) ≡ begin_step K.CAPACITY K.DIGEST K.mapping (shown K.CAPACITY K.DIGEST self.old) place length }
     {
         if length == 0 || length > LONGEST {
             return Err(Denial::BadLength);
@@ -60,7 +60,7 @@ impl Station {
     }
 
     pub(crate) fn feed<K: Kind>(&mut self, kind: &K, word: u64) -> Result<(), Denial>
-        ensures { (shown K.Kind.c K.Kind.w self.new, told result) ≡ feed_step K.Kind.c K.Kind.w K.Kind.mapping (shown K.Kind.c K.Kind.w self.old) (word ∷ []) }
+        ensures { (shown K.CAPACITY K.DIGEST self.new, told result) ≡ feed_step K.CAPACITY K.DIGEST K.mapping (shown K.CAPACITY K.DIGEST self.old) (word ∷ []) }
     {
         match self.phase {
             Phase::Idle => Err(Denial::StationIdle),
@@ -76,7 +76,7 @@ impl Station {
 
     // Eight words, all or none.
     pub(crate) fn feed_eight<K: Kind>(&mut self, kind: &K, words: &[u64; 8]) -> Result<(), Denial>
-        ensures { (shown K.Kind.c K.Kind.w self.new, told result) ≡ feed_step K.Kind.c K.Kind.w K.Kind.mapping (shown K.Kind.c K.Kind.w self.old) words.now }
+        ensures { (shown K.CAPACITY K.DIGEST self.new, told result) ≡ feed_step K.CAPACITY K.DIGEST K.mapping (shown K.CAPACITY K.DIGEST self.old) words.now }
     {
         let bad = first_bad(words);
         match self.phase {
@@ -96,9 +96,9 @@ impl Station {
 
     // The place of the record in hand, with its digest in `out`.
     pub(crate) fn seal<K: Kind>(&mut self, kind: &K, out: &mut [u64]) -> Result<usize, Denial>
-        requires { long out.old ≡ K.Kind.w }
-        ensures step { (shown K.Kind.c K.Kind.w self.new, told result) ≡ seal_step (shown K.Kind.c K.Kind.w self.old) }
-        ensures sealed { IfOk result (λ p. Sealed K.Kind.c K.Kind.w K.Kind.mapping (shown K.Kind.c K.Kind.w self.old) p out.new) }
+        requires { long out.old ≡ K.DIGEST }
+        ensures step { (shown K.CAPACITY K.DIGEST self.new, told result) ≡ seal_step (shown K.CAPACITY K.DIGEST self.old) }
+        ensures sealed { IfOk result (λ p. Sealed K.CAPACITY K.DIGEST K.mapping (shown K.CAPACITY K.DIGEST self.old) p out.new) }
     {
         match self.phase {
             Phase::Idle => Err(Denial::StationIdle),

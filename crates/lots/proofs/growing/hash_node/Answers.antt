@@ -5,8 +5,8 @@ use Rattle.lots.proofs.growing.hash_node.Goals as goal
 pub compress-requires : goal.compress-requires
 compress-requires g c =
     let s = g.met.K.Kind.sound in
-    let w = g.K.Kind.w in
-    let x = c.digest_len-w.result in
+    let w = g.K.Kind.DIGEST in
+    let x = c.DIGEST-w.result in
     let i = c.args.i in
     let left : 14 * i + x - 14 * i ≡ w = omega arith in
     let right : 14 * i + 7 + x - (14 * i + 7) ≡ w = omega arith in

@@ -24,5 +24,5 @@ join-requires g t c =
 pub returns-else-level-eq0 : goal.returns-else-level-eq0
 returns-else-level-eq0 g t c =
     let k = g.K.Kind in
-    let e = under_more k.c k.w k.mapping c.args.words.now (c.args.level - 1) c.args.level c.args.i (omega arith) in
+    let e = under_more k.CAPACITY k.DIGEST k.mapping c.args.words.now (c.args.level - 1) c.args.level c.args.i (omega arith) in
     rw (c.join.ensures, c.tree.ensures, c.tree-else-level-eq0.ensures) (sym e)

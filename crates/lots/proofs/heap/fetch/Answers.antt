@@ -6,6 +6,6 @@ pub returns : goal.returns
 returns g c =
     let k = g.K.Kind in
     let s = g.met.K.Kind.sound in
-    let z : 7 * c.args.i + c.digest_len-w.result - 7 * c.args.i ≡ k.w = omega arith in
-    let n : length (take (c.digest_len-w.result - 0) c.args.out.now) ≡ k.w = simp length-take (omega (arith, s.m_small, s.c_some)) in
-    take_at c.copy_from_slice.new.self _ k.w (c.copy_from_slice.auto.self ∙ n) ∙ (rw z at c.copy_from_slice.ensures.after)
+    let z : 7 * c.args.i + c.DIGEST-w.result - 7 * c.args.i ≡ k.DIGEST = omega arith in
+    let n : length (take (c.DIGEST-w.result - 0) c.args.out.now) ≡ k.DIGEST = simp length-take (omega (arith, s.m_small, s.c_some)) in
+    take_at c.copy_from_slice.new.self _ k.DIGEST (c.copy_from_slice.auto.self ∙ n) ∙ (rw z at c.copy_from_slice.ensures.after)

@@ -6,6 +6,6 @@ pub returns : goal.returns
 returns g c =
     let k = g.K.Kind in
     let s = g.met.K.Kind.sound in
-    let z : c.digest_len-w.result - 0 ≡ k.w = omega arith in
-    let n : length (take (c.digest_len-w.result - 0) c.args.out.now) ≡ k.w = simp length-take (omega (arith, s.m_small, s.c_some)) in
-    take_at c.compress.new.out _ k.w (c.compress.auto.out ∙ n) ∙ (rw z at c.compress.ensures)
+    let z : c.DIGEST-w.result - 0 ≡ k.DIGEST = omega arith in
+    let n : length (take (c.DIGEST-w.result - 0) c.args.out.now) ≡ k.DIGEST = simp length-take (omega (arith, s.m_small, s.c_some)) in
+    take_at c.compress.new.out _ k.DIGEST (c.compress.auto.out ∙ n) ∙ (rw z at c.compress.ensures)

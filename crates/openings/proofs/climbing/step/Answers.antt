@@ -7,7 +7,7 @@ use Rattle.openings.proofs.climbing.step.Goals as goal
 
 pub hash_pair-requires : goal.hash_pair-requires
 hash_pair-requires g c =
-    let w = g.K.Kind.w in
+    let w = g.K.Kind.DIGEST in
     record {
       pair = rw c.lay_pair.ensures (flat_state w _ (paired_digests w c.args.right c.args.own.now c.args.sibling.now c.requires.own c.requires.sibling));
       long = c.requires.own.long;
@@ -16,10 +16,10 @@ hash_pair-requires g c =
 pub returns : goal.returns
 returns g c =
     let k = g.K.Kind in
-    let d = paired_digests k.w c.args.right c.args.own.now c.args.sibling.now c.requires.own c.requires.sibling in
+    let d = paired_digests k.DIGEST c.args.right c.args.own.now c.args.sibling.now c.requires.own c.requires.sibling in
     record {
       own = c.hash_pair.ensures
-          ∙ ap (λ (p : List ℕ). two_to_one k.c k.w k.mapping (take k.w p) (drop k.w p)) c.lay_pair.ensures
-          ∙ hash_flat k.c k.w k.mapping (paired c.args.right c.args.own.now c.args.sibling.now) d;
+          ∙ ap (λ (p : List ℕ). two_to_one k.CAPACITY k.DIGEST k.mapping (take k.DIGEST p) (drop k.DIGEST p)) c.lay_pair.ensures
+          ∙ hash_flat k.CAPACITY k.DIGEST k.mapping (paired c.args.right c.args.own.now c.args.sibling.now) d;
       pair = c.lay_pair.ensures;
     }

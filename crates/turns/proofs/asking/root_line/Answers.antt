@@ -3,4 +3,4 @@ use Rattle.turns.proofs.Lining.{front_zeros}
 use Rattle.turns.proofs.asking.root_line.Goals as goal
 
 pub returns : goal.returns
-returns g c = rw (← front_zeros _ 5 c.digest_len-w.result g.K.Kind.w refl c.digest_len-w.ensures (omega arith)) c.root_into.ensures
+returns g c = rw (← front_zeros _ 5 c.DIGEST-w.result g.K.Kind.DIGEST refl c.DIGEST-w.ensures (omega arith)) c.root_into.ensures

@@ -11,5 +11,5 @@ returns g c =
     let n : length c.grow.new.words ≡ v.len = c.grow.auto.words ∙ c.deref_mut.ensures.len in
     record {
       depth = refl;
-      nodes = ap (nodes_in g.K.Kind.w self.depth) (refill v.len c.grow.new.words v.items n) ∙ nodes_grown self.depth (grown_as self.depth _ (vec_items v) _ _ c.deref_mut.ensures.value c.places.ensures c.grow.ensures);
+      nodes = ap (nodes_in g.K.Kind.DIGEST self.depth) (refill v.len c.grow.new.words v.items n) ∙ nodes_grown self.depth (grown_as self.depth _ (vec_items v) _ _ c.deref_mut.ensures.value c.places.ensures c.grow.ensures);
     }

@@ -14,4 +14,4 @@ pub returns : goal.returns
 returns g c =
     let k = g.K.Kind in
     let self = c.args.self.now in
-    root_is k.c k.w k.mapping self.depth c.digest_len-w.result (vec_items self.words) _ c.tree.new.out _ c.deref.ensures.value c.digest_len-w.ensures c.copy_from_slice.ensures.after c.tree.ensures
+    root_is k.CAPACITY k.DIGEST k.mapping self.depth c.DIGEST-w.result (vec_items self.words) _ c.tree.new.out _ c.deref.ensures.value c.DIGEST-w.ensures c.copy_from_slice.ensures.after c.tree.ensures

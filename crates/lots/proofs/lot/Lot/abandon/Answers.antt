@@ -8,4 +8,4 @@ use Rattle.lots.proofs.lot.Lot.abandon.Goals as goal
 pub returns : goal.returns
 returns g c =
     let k = g.K.Kind in
-    abandoned_is k.c k.w k.mapping (seen k.c k.w c.args.self.now) c.args.station (omega arith) (all_shown k.c k.w c.abandon.new.self.table) (told c.abandon.result) c.abandon.ensures
+    abandoned_is k.CAPACITY k.DIGEST k.mapping (seen k.CAPACITY k.DIGEST c.args.self.now) c.args.station (omega arith) (all_shown k.CAPACITY k.DIGEST c.abandon.new.self.table) (told c.abandon.result) c.abandon.ensures

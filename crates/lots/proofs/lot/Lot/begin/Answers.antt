@@ -8,4 +8,4 @@ use Rattle.lots.proofs.lot.Lot.begin.Goals as goal
 pub returns : goal.returns
 returns g c =
     let k = g.K.Kind in
-    begun_is k.c k.w k.mapping (seen k.c k.w c.args.self.now) c.args.station (omega arith) (all_shown k.c k.w c.begin.new.self.table) (told c.begin.result) c.args.place c.args.length (omega arith) c.begin.ensures
+    begun_is k.CAPACITY k.DIGEST k.mapping (seen k.CAPACITY k.DIGEST c.args.self.now) c.args.station (omega arith) (all_shown k.CAPACITY k.DIGEST c.begin.new.self.table) (told c.begin.result) c.args.place c.args.length (omega arith) c.begin.ensures

@@ -8,4 +8,4 @@ use Rattle.lots.proofs.lot.Lot.feed.Goals as goal
 pub returns : goal.returns
 returns g c =
     let k = g.K.Kind in
-    fed_is k.c k.w k.mapping (seen k.c k.w c.args.self.now) c.args.station (omega arith) (all_shown k.c k.w c.feed.new.self.table) (told c.feed.result) (c.args.word ∷ []) c.feed.ensures
+    fed_is k.CAPACITY k.DIGEST k.mapping (seen k.CAPACITY k.DIGEST c.args.self.now) c.args.station (omega arith) (all_shown k.CAPACITY k.DIGEST c.feed.new.self.table) (told c.feed.result) (c.args.word ∷ []) c.feed.ensures

@@ -8,4 +8,4 @@ use Rattle.lots.proofs.lot.Lot.feed_eight.Goals as goal
 pub returns : goal.returns
 returns g c =
     let k = g.K.Kind in
-    fed_is k.c k.w k.mapping (seen k.c k.w c.args.self.now) c.args.station (omega arith) (all_shown k.c k.w c.feed_eight.new.self.table) (told c.feed_eight.result) c.args.words.now c.feed_eight.ensures
+    fed_is k.CAPACITY k.DIGEST k.mapping (seen k.CAPACITY k.DIGEST c.args.self.now) c.args.station (omega arith) (all_shown k.CAPACITY k.DIGEST c.feed_eight.new.self.table) (told c.feed_eight.result) c.args.words.now c.feed_eight.ensures

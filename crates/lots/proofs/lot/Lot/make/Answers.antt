@@ -7,5 +7,5 @@ pub returns : goal.returns
 returns g c =
     let k = g.K.Kind in
     let s = g.met.K.Kind.sound in
-    make_granted k.w c.args.depth (seen k.c k.w c.args.self.now) _ (omega arith)
-    (newly_is k.w c.args.depth _ _ _ c.make.ensures.0 c.make.ensures.1 c.new-stations.ensures (omega (arith, s.m_small, s.c_some)) (omega arith))
+    make_granted k.DIGEST c.args.depth (seen k.CAPACITY k.DIGEST c.args.self.now) _ (omega arith)
+    (newly_is k.DIGEST c.args.depth _ _ _ c.make.ensures.0 c.make.ensures.1 c.new-stations.ensures (omega (arith, s.m_small, s.c_some)) (omega arith))

@@ -9,4 +9,4 @@ pub returns-in_err-place : goal.returns-in_err-place
 returns-in_err-place g c =
     let k = g.K.Kind in
     let p = err_from_is_err_and c.from_residual.result c.from_residual.ensures.1 in
-    rw (p.1, p.2) (not_sealed k.c k.w k.mapping (seen k.c k.w c.args.self.now) c.args.station (omega arith) (all_shown k.c k.w c.seal.new.self.table) _ _ _ refl c.in_err-place.ensures.step)
+    rw (p.1, p.2) (not_sealed k.CAPACITY k.DIGEST k.mapping (seen k.CAPACITY k.DIGEST c.args.self.now) c.args.station (omega arith) (all_shown k.CAPACITY k.DIGEST c.seal.new.self.table) _ _ _ refl c.in_err-place.ensures.step)

@@ -5,4 +5,4 @@ use Rattle.lots.proofs.nodes.Nodes.open.Goals as goal
 pub returns : goal.returns
 returns g c =
     let self = c.args.self.now in
-    open_granted g.K.Kind.w c.digest_len-w.result self.depth c.args.place c.places-half.result (vec_items self.words) _ c.args.out.now _ c.deref.ensures.value c.places-half.ensures c.digest_len-w.ensures c.if-place-half.false c.if-out-self.false c.path.ensures
+    open_granted g.K.Kind.DIGEST c.DIGEST-w.result self.depth c.args.place c.places-half.result (vec_items self.words) _ c.args.out.now _ c.deref.ensures.value c.places-half.ensures c.DIGEST-w.ensures c.if-place-half.false c.if-out-self.false c.path.ensures

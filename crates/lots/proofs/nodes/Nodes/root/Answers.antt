@@ -5,4 +5,4 @@ use Rattle.lots.proofs.nodes.Nodes.root.Goals as goal
 pub returns : goal.returns
 returns g c =
     let self = c.args.self.now in
-    root_granted g.K.Kind.w self.depth _ (vec_items self.words) _ c.args.out.now _ c.deref.ensures.value c.if-out-digest_len.false c.digest_len.ensures c.read_node.ensures
+    root_granted g.K.Kind.DIGEST self.depth _ (vec_items self.words) _ c.args.out.now _ c.deref.ensures.value c.if-out-DIGEST.false c.DIGEST.ensures c.read_node.ensures

@@ -5,4 +5,4 @@ use Rattle.sponge.proofs.sponge.Sponge.absorb_all.Given as goal
 abbrev pub invariant-loop-x : goal.invariant-loop-x
 invariant-loop-x g l =
     let k = g.K.Kind in
-    held k.c k.w l.self ≡ fed_all k.c k.w k.mapping (held k.c k.w l.initial.self) (take l.x-index l.words)
+    held k.CAPACITY k.DIGEST l.self ≡ fed_all k.CAPACITY k.DIGEST k.mapping (held k.CAPACITY k.DIGEST l.initial.self) (take l.x-index l.words)

@@ -6,4 +6,4 @@ use Rattle.sponge.proofs.sponge.Sponge.finish.Goals as goal
 pub returns : goal.returns
 returns g c =
     let k = g.K.Kind in
-    cut_of k.c k.w c.capacity_len-c.result c.digest_len-w.result c.fill_up.new.self.state _ _ c.capacity_len-c.ensures c.digest_len-w.ensures c.copy_from_slice.ensures.after (ap (λ (s : Stream). s.0) c.fill_up.ensures)
+    cut_of k.CAPACITY k.DIGEST c.CAPACITY-c.result c.DIGEST-w.result c.fill_up.new.self.state _ _ c.CAPACITY-c.ensures c.DIGEST-w.ensures c.copy_from_slice.ensures.after (ap (λ (s : Stream). s.0) c.fill_up.ensures)

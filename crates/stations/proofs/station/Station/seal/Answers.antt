@@ -7,6 +7,6 @@ returns-in-Full g c =
     let s = c.args.self.now.sponge in
     let now = c.args.self.now.phase in
     record {
-      step = seal_granted k.c k.w s now c.in-Full.place _ c.in-Full.is;
+      step = seal_granted k.CAPACITY k.DIGEST s now c.in-Full.place _ c.in-Full.is;
       sealed = sealed_full g.met.K.Kind.sound s now c.in-Full.place _ c.in-Full.is c.finish.new.out c.finish.ensures;
     }

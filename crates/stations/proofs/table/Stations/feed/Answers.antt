@@ -7,4 +7,4 @@ use Rattle.stations.proofs.table.Stations.feed.Goals as goal
 pub returns : goal.returns
 returns g c =
     let k = g.K.Kind in
-    one_called k.c k.w c.args.i c.args.self.now.table c.station.result.now c.station.ensures.value c.requires c.feed.new.self (told c.feed.result) (λ h. feed_step k.c k.w k.mapping h (c.args.word ∷ [])) c.feed.ensures
+    one_called k.CAPACITY k.DIGEST c.args.i c.args.self.now.table c.station.result.now c.station.ensures.value c.requires c.feed.new.self (told c.feed.result) (λ h. feed_step k.CAPACITY k.DIGEST k.mapping h (c.args.word ∷ [])) c.feed.ensures

@@ -6,4 +6,4 @@ use Rattle.stations.proofs.table.Stations.feed_eight.Goals as goal
 pub returns : goal.returns
 returns g c =
     let k = g.K.Kind in
-    one_called k.c k.w c.args.i c.args.self.now.table c.station.result.now c.station.ensures.value c.requires c.feed_eight.new.self (told c.feed_eight.result) (λ h. feed_step k.c k.w k.mapping h c.args.words.now) c.feed_eight.ensures
+    one_called k.CAPACITY k.DIGEST c.args.i c.args.self.now.table c.station.result.now c.station.ensures.value c.requires c.feed_eight.new.self (told c.feed_eight.result) (λ h. feed_step k.CAPACITY k.DIGEST k.mapping h c.args.words.now) c.feed_eight.ensures

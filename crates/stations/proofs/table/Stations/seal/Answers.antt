@@ -9,6 +9,6 @@ returns g c =
     let t = c.args.self.now.table in
     let s = c.station.result.now in
     record {
-      step = one_called k.c k.w c.args.i t s c.station.ensures.value c.requires.0 c.seal.new.self (told c.seal.result) seal_step c.seal.ensures.step;
-      sealed = one_sealed k.c k.w c.args.i t s c.station.ensures.value c.requires.0 k.mapping c.seal.result c.seal.new.out c.seal.ensures.sealed;
+      step = one_called k.CAPACITY k.DIGEST c.args.i t s c.station.ensures.value c.requires.0 c.seal.new.self (told c.seal.result) seal_step c.seal.ensures.step;
+      sealed = one_sealed k.CAPACITY k.DIGEST c.args.i t s c.station.ensures.value c.requires.0 k.mapping c.seal.result c.seal.new.out c.seal.ensures.sealed;
     }
