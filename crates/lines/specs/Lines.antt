@@ -1,12 +1,8 @@
 -- The lines of a transcript, byte for byte: parts split by single spaces, numbers in decimal, a line feed at the end.
-use Rattle.std.specs.Prelude.{ℕ, ◌+◌, List, [], ◌∷◌, ◌++◌, map, length, take, drop, codes, decimal}
+use Rattle.std.specs.Prelude.{ℕ, ◌+◌, List, [], ◌∷◌, ◌++◌, map, length, drop, codes, decimal}
 use Rattle.std.specs.List.{flat_map}
 use Rattle.kinds.specs.declared.denial.Layer.{Layer}
 use Rattle.kinds.specs.Denials.{layer_word}
-
--- the bytes with a text over them from a place on
-abbrev pub put : List ℕ → ℕ → List ℕ → List ℕ
-put bytes at text = take at bytes ++ (text ++ drop (at + length text) bytes)
 
 -- the bytes with a text over their start
 abbrev pub over : List ℕ → List ℕ → List ℕ

@@ -1,3 +1,5 @@
+use Rattle.std.proofs.Common.{codes, decimal}
+use Rattle.kinds.specs.Denials.{layer_word}
 use Rattle.lines.proofs.Puts.{three_parts}
 use Rattle.lines.proofs.writing.no_line.Goals as goal
 
@@ -9,4 +11,4 @@ returns c =
     let e = rw (d, c.as_bytes.ensures.value, c.word.ensures) at c.push_text-3.ensures in
     let f = rw e at c.push_spaced_number-2.ensures.written in
     let g = rw f at c.push_text-4.ensures in
-    rw g (three_parts _ _ _ _)
+    rw g (three_parts (codes "no") (decimal c.args.number) (layer_word c.args.layer) (decimal c.args.offset))
