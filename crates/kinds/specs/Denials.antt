@@ -1,5 +1,5 @@
 -- The number, the layer and the values of each denial that the program returns.
-use Rattle.std.specs.Prelude.{ℕ, List, [], ◌∷◌, Ok, Err, Result}
+use Rattle.std.specs.Prelude.{ℕ, List, [], ◌∷◌, Ok, Err, Result, codes}
 use Rattle.kinds.specs.declared.denial.Denial.{Denial}
 use Rattle.kinds.specs.declared.denial.Denial.TheVariants as denial
 use Rattle.kinds.specs.declared.denial.Layer.{Layer}
@@ -35,6 +35,14 @@ layer_of denial.BadBuffer = layer.Lot
 layer_of denial.FirstNotAccepted = layer.Finder
 layer_of denial.SecondNotAccepted = layer.Finder
 layer_of denial.OpeningsAlike = layer.Finder
+
+-- the name of a layer
+abbrev pub layer_word : Layer → List ℕ
+layer_word layer.Lot = codes "lot"
+layer_word layer.Station = codes "station"
+layer_word layer.Word = codes "word"
+layer_word layer.Finder = codes "finder"
+layer_word layer.Script = codes "script"
 
 -- the index of the first word that is no element
 abbrev pub values_of : Denial → List ℕ

@@ -1,6 +1,8 @@
-ghost use Rattle.std.specs.Prelude.{◌≡◌, List};
+ghost use Rattle.std.specs.Prelude.{◌≡◌, List, Some};
 ghost use Rattle.std.specs.Option.{option_to_list};
-ghost use Rattle.kinds.specs.Denials.{number_of, layer_of, values_of};
+ghost use Rattle.kinds.specs.Denials.{number_of, layer_of, values_of, layer_word};
+
+use std::fmt;
 
 // Why a call is denied. docs/REFUSALS.md has the causes and the orders.
 #[derive(Clone, Copy, Debug, PartialEq, Eq)]
@@ -71,5 +73,28 @@ impl Denial {
             Denial::NotElement(i) => Some(i),
             _ => None,
         }
+    }
+}
+
+impl Layer {
+    // Its name in messages and in the lines of a transcript.
+    pub fn word(self) -> &'static str
+        ensures { result.now ≡ layer_word self }
+    {
+        match self {
+            Layer::Lot => "lot",
+            Layer::Station => "station",
+            Layer::Word => "word",
+            Layer::Finder => "finder",
+            Layer::Script => "script",
+        }
+    }
+}
+
+impl fmt::Display for Layer {
+    ghost output = { λ layer. Some (layer_word layer) };
+
+    fn fmt<W: fmt::Write>(&self, f: &mut fmt::Formatter<W>) -> fmt::Result {
+        f.write_str(self.word())
     }
 }

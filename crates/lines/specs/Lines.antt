@@ -1,12 +1,8 @@
 -- The lines of a transcript, byte for byte: parts split by single spaces, numbers in decimal, a line feed at the end.
-use Rattle.std.specs.Prelude.{ℕ, ◌+◌, List, [], ◌∷◌, ◌++◌, map, length, take, drop, codes, decimal}
+use Rattle.std.specs.Prelude.{ℕ, ◌+◌, List, [], ◌∷◌, ◌++◌, map, length, drop, codes, decimal}
 use Rattle.std.specs.List.{flat_map}
 use Rattle.kinds.specs.declared.denial.Layer.{Layer}
-use Rattle.kinds.specs.declared.denial.Layer.TheVariants as layer
-
--- the bytes with a text over them from a place on
-abbrev pub put : List ℕ → ℕ → List ℕ → List ℕ
-put bytes at text = take at bytes ++ (text ++ drop (at + length text) bytes)
+use Rattle.kinds.specs.Denials.{layer_word}
 
 -- the bytes with a text over their start
 abbrev pub over : List ℕ → List ℕ → List ℕ
@@ -22,13 +18,6 @@ line first parts = first ++ flat_map spaced parts ++ codes "\n"
 -- a word and numbers
 abbrev pub numbers_line : List ℕ → List ℕ → List ℕ
 numbers_line word ns = line word (map decimal ns)
-
-abbrev pub layer_word : Layer → List ℕ
-layer_word layer.Lot = codes "lot"
-layer_word layer.Station = codes "station"
-layer_word layer.Word = codes "word"
-layer_word layer.Finder = codes "finder"
-layer_word layer.Script = codes "script"
 
 -- the four lines
 

@@ -1,5 +1,5 @@
-// The lines of a transcript, written into a buffer of bytes. The caller has seen to the room.
+// The lines of a transcript.
 #![tactic(auto)]
 
-pub mod parts;
+pub mod line;
 pub mod writing;

@@ -1,62 +1,55 @@
 ghost use Rattle.std.specs.Prelude.{◌≡◌, ◌+◌, ◌*◌, ◌≤◌, length};
-ghost use Rattle.lines.specs.Lines.{over, numbers_line, ok_line, root_line, path_line, no_line};
+ghost use Rattle.lines.specs.Lines.{numbers_line, ok_line, root_line, path_line, no_line};
 
-use crate::parts::{put_spaced_layer, put_spaced_number, put_text};
+use crate::line::Line;
 use kinds::denial::Layer;
 
-// Each writes one line at the start of the buffer, keeps the bytes after it, and answers how long the line is.
-
-pub fn write_ok(out: &mut [u8]) -> usize
-    requires { 3 ≤ length out.old }
-    ensures written { out.new ≡ over ok_line out.old }
-    ensures len { result ≡ length ok_line }
-    ensures short { result ≤ 3 }
+pub fn ok_line() -> Line
+    ensures { result ≡ ok_line }
 {
-    put_text(out, 0, b"ok\n")
+    let mut line = Line::new();
+    line.push_text(b"ok\n");
+    line
 }
 
 // A word and numbers.
-pub fn write_numbers(word: &[u8], numbers: &[u64], out: &mut [u8]) -> usize
-    requires { length word.now + 21 * length numbers.now + 1 ≤ length out.old }
-    ensures written { out.new ≡ over (numbers_line word.now numbers.now) out.old }
-    ensures len { result ≡ length (numbers_line word.now numbers.now) }
-    ensures short { result ≤ length word.now + 21 * length numbers.now + 1 }
+pub fn numbers_line(word: &[u8], numbers: &[u64]) -> Line
+    requires { length word.now + 21 * length numbers.now + 1 ≤ 1024 }
+    ensures { result ≡ numbers_line word.now numbers.now }
 {
-    let mut at = put_text(out, 0, word);
+    let mut line = Line::new();
+    line.push_text(word);
     for n in numbers {
-        at = put_spaced_number(out, at, *n);
+        line.push_spaced_number(*n);
     }
-    put_text(out, at, b"\n")
+    line.push_text(b"\n");
+    line
 }
 
-pub fn write_root(numbers: &[u64], out: &mut [u8]) -> usize
-    requires { 21 * length numbers.now + 5 ≤ length out.old }
-    ensures written { out.new ≡ over (root_line numbers.now) out.old }
-    ensures len { result ≡ length (root_line numbers.now) }
-    ensures short { result ≤ 21 * length numbers.now + 5 }
+pub fn root_line(numbers: &[u64]) -> Line
+    requires { 21 * length numbers.now + 5 ≤ 1024 }
+    ensures { result ≡ root_line numbers.now }
 {
-    write_numbers(b"root", numbers, out)
+    numbers_line(b"root", numbers)
 }
 
-pub fn write_path(numbers: &[u64], out: &mut [u8]) -> usize
-    requires { 21 * length numbers.now + 5 ≤ length out.old }
-    ensures written { out.new ≡ over (path_line numbers.now) out.old }
-    ensures len { result ≡ length (path_line numbers.now) }
-    ensures short { result ≤ 21 * length numbers.now + 5 }
+pub fn path_line(numbers: &[u64]) -> Line
+    requires { 21 * length numbers.now + 5 ≤ 1024 }
+    ensures { result ≡ path_line numbers.now }
 {
-    write_numbers(b"path", numbers, out)
+    numbers_line(b"path", numbers)
 }
 
 // A refusal: its number, its layer, and the offset of the command.
-pub fn write_no(number: u8, layer: Layer, offset: usize, out: &mut [u8]) -> usize
-    requires { 53 ≤ length out.old }
-    ensures written { out.new ≡ over (no_line number layer offset) out.old }
-    ensures len { result ≡ length (no_line number layer offset) }
-    ensures short { result ≤ 53 }
+pub fn no_line(number: u8, layer: Layer, offset: usize) -> Line
+    ensures { result ≡ no_line number layer offset }
 {
-    let a = put_text(out, 0, b"no");
-    let b = put_spaced_number(out, a, number as u64);
-    let c = put_spaced_layer(out, b, layer);
-    let d = put_spaced_number(out, c, offset as u64);
-    put_text(out, d, b"\n")
+    let mut refusal = Line::new();
+    refusal.push_text(b"no");
+    refusal.push_spaced_number(number as u64);
+    refusal.push_text(b" ");
+    refusal.push_text(layer.word().as_bytes());
+    refusal.push_spaced_number(offset as u64);
+    refusal.push_text(b"\n");
+    refusal
 }

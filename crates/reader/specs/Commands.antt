@@ -1,9 +1,7 @@
 -- What stands at a place of a script.
 use Rattle.std.specs.Prelude.{ℕ, ◌+◌, cond, List, length, take, drop, Some, None, Ok, Err, Option, Result, nat_le, slice_index}
 use Rattle.reader.specs.declared.verbs.Verb.{Verb}
-use Rattle.reader.specs.declared.verbs.Verb.TheVariants as verb
 use Rattle.reader.specs.declared.commands.Command.{Command}
-use Rattle.reader.specs.declared.commands.Command.TheVariants as command
 use Rattle.reader.specs.declared.fault.ScriptFault.{ScriptFault}
 use Rattle.reader.specs.declared.fault.ScriptFault.TheVariants as fault
 use Rattle.reader.specs.Verbs.{verb_of, width_of}
@@ -39,16 +37,7 @@ read_at script at = cond (nat_le (length script) at) None (Some (read_command sc
 -- what the program returns, with the borrowed bytes read out
 
 abbrev pub said : Command → Read
-said (command.Start bytes at) = record { verb = verb.Start; operands = bytes.now; from = at }
-said (command.Begin bytes at) = record { verb = verb.Begin; operands = bytes.now; from = at }
-said (command.Feed bytes at) = record { verb = verb.Feed; operands = bytes.now; from = at }
-said (command.FeedEight bytes at) = record { verb = verb.FeedEight; operands = bytes.now; from = at }
-said (command.Seal bytes at) = record { verb = verb.Seal; operands = bytes.now; from = at }
-said (command.Abandon bytes at) = record { verb = verb.Abandon; operands = bytes.now; from = at }
-said (command.Clear bytes at) = record { verb = verb.Clear; operands = bytes.now; from = at }
-said (command.Root bytes at) = record { verb = verb.Root; operands = bytes.now; from = at }
-said (command.Open bytes at) = record { verb = verb.Open; operands = bytes.now; from = at }
-said (command.Close bytes at) = record { verb = verb.Close; operands = bytes.now; from = at }
+said c = record { verb = c.verb; operands = c.operands.now; from = c.at }
 
 abbrev pub told : Result (Command × ℕ) ScriptFault → Reading
 told (Ok p) = Ok (said p.0, p.1)

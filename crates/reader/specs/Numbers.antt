@@ -1,6 +1,11 @@
 -- Numbers from bytes, the least significant first; a byte past the end counts as 0.
 use Rattle.std.specs.Prelude.{ℕ, zero, suc, ◌+◌, ◌*◌, List, [], ◌∷◌, slice_index}
 
+-- the n bytes from a place on
+abbrev pub cut : List ℕ → ℕ → ℕ → List ℕ
+cut bytes at zero = []
+cut bytes at (suc n) = slice_index bytes at ∷ cut bytes (at + 1) n
+
 -- the number of the n bytes from a place on
 abbrev pub little : List ℕ → ℕ → ℕ → ℕ
 little bytes at zero = 0

@@ -1,7 +1,8 @@
 -- The command bytes, and how many operand bytes follow each.
-use Rattle.std.specs.Prelude.{ℕ, cond, Some, None, Option, ◌==◌}
+use Rattle.std.specs.Prelude.{ℕ, cond, Some, None, Ok, Err, Option, Result, ◌==◌}
 use Rattle.reader.specs.declared.verbs.Verb.{Verb}
 use Rattle.reader.specs.declared.verbs.Verb.TheVariants as verb
+use Rattle.reader.specs.declared.verbs.UnknownByte.{UnknownByte}
 
 abbrev pub verb_of : ℕ → Option Verb
 verb_of byte =
@@ -15,6 +16,14 @@ verb_of byte =
     (cond (byte == 0x16) (Some verb.Open)
     (cond (byte == 0x17) (Some verb.Close)
     (cond (byte == 0x18) (Some verb.FeedEight) None)))))))))
+
+-- the command of a byte, as a result
+abbrev pub named : Option Verb → Result Verb UnknownByte
+named None = Err (record {})
+named (Some v) = Ok v
+
+abbrev pub verb_in : ℕ → Result Verb UnknownByte
+verb_in byte = named (verb_of byte)
 
 abbrev pub width_of : Verb → ℕ
 width_of verb.Start = 2

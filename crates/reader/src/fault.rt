@@ -52,11 +52,11 @@ impl ScriptFault {
         ensures { option_to_list result ≡ values_of self }
     {
         match self {
-            ScriptFault::UnknownCommand(at) => Some(at),
-            ScriptFault::CutShort(at) => Some(at),
-            ScriptFault::OutOfPhase(at) => Some(at),
+            ScriptFault::UnknownCommand(at)
+            | ScriptFault::CutShort(at)
+            | ScriptFault::OutOfPhase(at)
+            | ScriptFault::UnknownKind(at) => Some(at),
             ScriptFault::TooLong => Some(0),
-            ScriptFault::UnknownKind(at) => Some(at),
             ScriptFault::Denied(denial) => denial.index(),
         }
     }

@@ -4,6 +4,7 @@ ghost use Rattle.reader.specs.Orders.{order_of};
 
 use crate::commands::Command;
 use crate::numbers::{byte_at, eight_words, u16_at, u64_at};
+use crate::verbs::Verb;
 
 // What a command asks for, with its operands as numbers.
 #[derive(Clone, Copy)]
@@ -41,42 +42,43 @@ pub enum Order {
     Close,
 }
 
-impl Order {
-    pub fn of(command: Command<'_>) -> Order
-        ensures { result ≡ order_of (said command.entry) }
-    {
-        match command {
-            Command::Start { operands, .. } => Order::Start {
+impl From<Command<'_>> for Order {
+    ghost from_gives = { λ command order. order ≡ order_of (said command) };
+
+    fn from(command: Command<'_>) -> Order {
+        let operands = command.operands;
+        match command.verb {
+            Verb::Start => Order::Start {
                 kind: byte_at(operands, 0),
                 depth: byte_at(operands, 1),
             },
-            Command::Begin { operands, .. } => Order::Begin {
+            Verb::Begin => Order::Begin {
                 station: byte_at(operands, 0),
                 place: u16_at(operands, 1),
                 length: u16_at(operands, 3),
             },
-            Command::Feed { operands, .. } => Order::Feed {
+            Verb::Feed => Order::Feed {
                 station: byte_at(operands, 0),
                 word: u64_at(operands, 1),
             },
-            Command::FeedEight { operands, .. } => Order::FeedEight {
+            Verb::FeedEight => Order::FeedEight {
                 station: byte_at(operands, 0),
                 words: eight_words(operands),
             },
-            Command::Seal { operands, .. } => Order::Seal {
+            Verb::Seal => Order::Seal {
                 station: byte_at(operands, 0),
             },
-            Command::Abandon { operands, .. } => Order::Abandon {
+            Verb::Abandon => Order::Abandon {
                 station: byte_at(operands, 0),
             },
-            Command::Clear { operands, .. } => Order::Clear {
+            Verb::Clear => Order::Clear {
                 place: u16_at(operands, 0),
             },
-            Command::Root { .. } => Order::Root,
-            Command::Open { operands, .. } => Order::Open {
+            Verb::Root => Order::Root,
+            Verb::Open => Order::Open {
                 place: u16_at(operands, 0),
             },
-            Command::Close { .. } => Order::Close,
+            Verb::Close => Order::Close,
         }
     }
 }

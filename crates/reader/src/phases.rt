@@ -16,15 +16,10 @@ impl Phase {
     pub fn allows(self, verb: Verb) -> bool
         ensures { result ≡ in_phase self verb }
     {
-        match (self, verb) {
-            (Phase::Before, Verb::Start) => true,
-            (Phase::Before, _) => false,
-            (Phase::Filling, Verb::Start) => false,
-            (Phase::Filling, Verb::Open) => false,
-            (Phase::Filling, _) => true,
-            (Phase::Closed, Verb::Root) => true,
-            (Phase::Closed, Verb::Open) => true,
-            (Phase::Closed, _) => false,
+        match self {
+            Phase::Before => matches!(verb, Verb::Start),
+            Phase::Filling => !matches!(verb, Verb::Start | Verb::Open),
+            Phase::Closed => matches!(verb, Verb::Root | Verb::Open),
         }
     }
 }

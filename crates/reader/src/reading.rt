@@ -10,16 +10,13 @@ fn read_command<'a>(script: &'a [u8], at: usize) -> Result<(Command<'a>, usize),
     requires { at < length script.now }
     ensures { told result ≡ read_command script.now at }
 {
-    let Some(verb) = Verb::of(script[at]) else {
+    let Ok(verb) = Verb::try_from(script[at]) else {
         return Err(ScriptFault::UnknownCommand(at));
     };
-    let n = verb.width();
-    let left = script.len() - at - 1;
-    if left < n {
+    let Some(operands) = script[at + 1..].get(..verb.width()) else {
         return Err(ScriptFault::CutShort(at));
-    }
-    let operands = &script[at + 1..at + 1 + n];
-    Ok((Command::new(verb, operands, at), at + 1 + n))
+    };
+    Ok((Command { verb, operands, at }, at + 1 + operands.len()))
 }
 
 // The command at a place and the place after it; none where the script has no byte.

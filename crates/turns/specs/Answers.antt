@@ -1,18 +1,12 @@
 -- The line of each answer.
-use Rattle.std.specs.Prelude.{◌≡◌, ℕ, ◌≤◌, List, [], ◌∷◌, length, slice_index_or}
+use Rattle.std.specs.Prelude.{ℕ, List, [], ◌∷◌, slice_index_or}
 use Rattle.kinds.specs.declared.denial.Layer.{Layer}
 use Rattle.kinds.specs.declared.denial.Layer.TheVariants as layer
 use Rattle.kinds.specs.Answers.{Answer, granted, denied}
-use Rattle.lines.specs.Lines.{over, no_line}
+use Rattle.lines.specs.Lines.{no_line}
 use Rattle.reader.specs.declared.fault.ScriptFault.{ScriptFault}
 use Rattle.reader.specs.declared.fault.ScriptFault.TheVariants as fault
 use Rattle.reader.specs.Faults.{number_of, layer_of}
-
--- a line at the start of a buffer: its bytes, its length, and that it is not long
-pub record Lined (line old new : List ℕ) (n : ℕ) : Type 0 where
-  pub written : new ≡ over line old
-  pub len : n ≡ length line
-  pub short : n ≤ 1024
 
 -- the layers of the refusals of a lot, by their numbers from 0 on
 abbrev pub layers : List Layer

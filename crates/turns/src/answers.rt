@@ -1,10 +1,10 @@
-ghost use Rattle.std.specs.Prelude.{◌≡◌, ◌≤◌, length};
-ghost use Rattle.kinds.specs.Denials.{told, number_of};
-ghost use Rattle.lines.specs.Lines.{ok_line, root_line, path_line};
-ghost use Rattle.turns.specs.Answers.{Lined, offset_of, fault_line, denied_line, answer_line};
+ghost use Rattle.std.specs.Prelude.{◌≡◌};
+ghost use Rattle.kinds.specs.Denials.{told};
+ghost use Rattle.turns.specs.Answers.{offset_of, fault_line, answer_line};
 
 use kinds::denial::Denial;
-use lines::writing::{write_no, write_ok, write_path, write_root};
+use lines::line::Line;
+use lines::writing::no_line;
 use reader::fault::ScriptFault;
 
 // The offset in the line of a fault of the command at that place.
@@ -12,68 +12,27 @@ fn offset_of(fault: ScriptFault, at: usize) -> usize
     ensures { result ≡ offset_of fault at }
 {
     match fault {
-        ScriptFault::UnknownCommand(own) => own,
-        ScriptFault::CutShort(own) => own,
-        ScriptFault::OutOfPhase(own) => own,
+        ScriptFault::UnknownCommand(own)
+        | ScriptFault::CutShort(own)
+        | ScriptFault::OutOfPhase(own)
+        | ScriptFault::UnknownKind(own) => own,
         ScriptFault::TooLong => 0,
-        ScriptFault::UnknownKind(own) => own,
         ScriptFault::Denied(_) => at,
     }
 }
 
-pub fn write_fault(fault: ScriptFault, at: usize, out: &mut [u8]) -> usize
-    requires { 1024 ≤ length out.old }
-    ensures { Lined (fault_line fault at) out.old out.new result }
+pub fn fault_line(fault: ScriptFault, at: usize) -> Line
+    ensures { result ≡ fault_line fault at }
 {
-    write_no(fault.number(), fault.layer(), offset_of(fault, at), out)
+    no_line(fault.number(), fault.layer(), offset_of(fault, at))
 }
 
-fn write_denial(denial: Denial, at: usize, out: &mut [u8]) -> usize
-    requires { 1024 ≤ length out.old }
-    ensures { Lined (denied_line (number_of denial) at) out.old out.new result }
-{
-    write_fault(ScriptFault::from(denial), at, out)
-}
-
-// The line of a call that writes nothing.
-pub fn write_answer(answer: Result<(), Denial>, at: usize, out: &mut [u8]) -> usize
-    requires { 1024 ≤ length out.old }
-    ensures { Lined (answer_line (told answer) ok_line at) out.old out.new result }
+// The line of a call: the one given where it is granted, else its refusal.
+pub fn answer_line(answer: Result<(), Denial>, granted: Line, at: usize) -> Line
+    ensures { result ≡ answer_line (told answer) granted at }
 {
     match answer {
-        Ok(()) => write_ok(out),
-        Err(denial) => write_denial(denial, at, out),
-    }
-}
-
-// The line of a call that writes a tree value.
-pub fn write_root_answer(
-    answer: Result<(), Denial>,
-    words: &[u64],
-    at: usize,
-    out: &mut [u8],
-) -> usize
-    requires { (1024 ≤ length out.old) × (length words.now ≤ 40) }
-    ensures { Lined (answer_line (told answer) (root_line words.now) at) out.old out.new result }
-{
-    match answer {
-        Ok(()) => write_root(words, out),
-        Err(denial) => write_denial(denial, at, out),
-    }
-}
-
-// The line of a call that writes a path.
-pub fn write_path_answer(
-    answer: Result<(), Denial>,
-    words: &[u64],
-    at: usize,
-    out: &mut [u8],
-) -> usize
-    requires { (1024 ≤ length out.old) × (length words.now ≤ 40) }
-    ensures { Lined (answer_line (told answer) (path_line words.now) at) out.old out.new result }
-{
-    match answer {
-        Ok(()) => write_path(words, out),
-        Err(denial) => write_denial(denial, at, out),
+        Ok(()) => granted,
+        Err(denial) => fault_line(ScriptFault::from(denial), at),
     }
 }

@@ -1,54 +1,44 @@
-ghost use Rattle.std.specs.Prelude.{◌≡◌, ◌≤◌, length as long, replicate};
+ghost use Rattle.std.specs.Prelude.{◌≡◌, replicate};
 ghost use Rattle.lots.specs.Seen.{seen};
-ghost use Rattle.turns.specs.Answers.{Lined};
 ghost use Rattle.turns.specs.Turns.{root_told, filled};
 
-use crate::answers::{write_answer, write_fault, write_root_answer};
+use crate::answers::{answer_line, fault_line};
 use kinds::kind::Kind;
+use lines::line::Line;
+use lines::writing::{ok_line, root_line};
 use lots::lot::Lot;
 use reader::fault::ScriptFault;
 use reader::orders::Order;
 
-// The line of the tree value, with room for it.
-fn root_into<K: Kind>(lot: &Lot<K>, words: &mut [u64], at: usize, out: &mut [u8]) -> usize
-    requires { (1024 ≤ long out.old) × (long words.old ≤ 40) }
-    ensures { Lined (root_told K.CAPACITY K.DIGEST K.mapping (seen K.CAPACITY K.DIGEST lot.now) words.old at) out.old out.new result }
+// The line of the tree value. No kind's digest has more than 7 words.
+fn root_told<K: Kind>(lot: &Lot<K>, at: usize) -> Line
+    ensures { result ≡ root_told K.CAPACITY K.DIGEST K.mapping (seen K.CAPACITY K.DIGEST lot.now) (replicate K.DIGEST 0) at }
 {
+    let mut zeros = [0; 7];
+    let words = &mut zeros[..K::DIGEST];
     let answer = lot.root(words);
-    write_root_answer(answer, words, at, out)
+    answer_line(answer, root_line(words), at)
 }
 
-fn root_line<K: Kind>(lot: &Lot<K>, at: usize, out: &mut [u8]) -> usize
-    requires { (1024 ≤ long out.old) × (K.DIGEST ≤ 5) }
-    ensures { Lined (root_told K.CAPACITY K.DIGEST K.mapping (seen K.CAPACITY K.DIGEST lot.now) (replicate K.DIGEST 0) at) out.old out.new result }
-{
-    let w = K::DIGEST;
-    let mut words = [0u64; 5];
-    root_into(lot, &mut words[0..w], at, out)
-}
-
-// Runs a command that is in its phase, and writes its line.
-pub fn fill<K: Kind>(lot: &mut Lot<K>, order: Order, at: usize, out: &mut [u8]) -> usize
-    requires { (1024 ≤ long out.old) × (K.DIGEST ≤ 5) }
+// Runs a command that is in its phase, and gives its line.
+#[tactic(auto, unfolding(crate::specs::Turns::filled))]
+pub fn fill<K: Kind>(lot: &mut Lot<K>, order: Order, at: usize) -> Line
     ensures after { seen K.CAPACITY K.DIGEST lot.new ≡ (filled K.CAPACITY K.DIGEST K.mapping (seen K.CAPACITY K.DIGEST lot.old) order at).0 }
-    ensures line { Lined (filled K.CAPACITY K.DIGEST K.mapping (seen K.CAPACITY K.DIGEST lot.old) order at).1 out.old out.new result }
+    ensures line { result ≡ (filled K.CAPACITY K.DIGEST K.mapping (seen K.CAPACITY K.DIGEST lot.old) order at).1 }
 {
-    match order {
+    let answer = match order {
         Order::Begin {
             station,
             place,
             length,
-        } => { write_answer(lot.begin(station, place, length), at, out) }
-        Order::Feed { station, word } => write_answer(lot.feed(station, word), at, out),
-        Order::FeedEight { station, words } => write_answer(
-            lot.feed_eight(station, &words),
-            at,
-            out,
-        ),
-        Order::Seal { station } => write_answer(lot.seal(station), at, out),
-        Order::Abandon { station } => write_answer(lot.abandon(station), at, out),
-        Order::Clear { place } => write_answer(lot.clear(place), at, out),
-        Order::Root => root_line(lot, at, out),
-        _ => write_fault(ScriptFault::OutOfPhase(at), at, out),
-    }
+        } => lot.begin(station, place, length),
+        Order::Feed { station, word } => lot.feed(station, word),
+        Order::FeedEight { station, words } => lot.feed_eight(station, &words),
+        Order::Seal { station } => lot.seal(station),
+        Order::Abandon { station } => lot.abandon(station),
+        Order::Clear { place } => lot.clear(place),
+        Order::Root => return root_told(lot, at),
+        _ => return fault_line(ScriptFault::OutOfPhase(at), at),
+    };
+    answer_line(answer, ok_line(), at)
 }

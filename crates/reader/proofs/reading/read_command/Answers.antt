@@ -1,16 +1,16 @@
-use Rattle.std.proofs.Common.{sym, arith, rules}
-use Rattle.reader.specs.Commands.{said, read_command}
-use Rattle.reader.proofs.Cuts.{read_is}
+use Rattle.std.proofs.Common.{inl, inr, arith}
+use Rattle.reader.specs.Commands.{read_command}
+use Rattle.reader.proofs.Cuts.{named_none, read_whole, read_short}
 use Rattle.reader.proofs.reading.read_command.Goals as goal
-
-pub returns : goal.returns
-returns c =
-    read_is c.args.script.now c.args.at c.width-n.result c.in-Some.verb (said c.new.result) c.width-n.ensures.exact (omega arith) c.new.ensures (sym c.in-Some.ensures)
 
 pub returns-in_default : goal.returns-in_default
 unfolding read_command
-returns-in_default c = search rules
+returns-in_default c = rw (named_none _ _ c.in_default.ensures)
 
-pub returns-then-left-n : goal.returns-then-left-n
-unfolding read_command
-returns-then-left-n c = search rules
+pub returns-in_default-get : goal.returns-in_default-get
+returns-in_default-get c =
+    read_short c.args.script.now c.args.at c.width.result c.in-Ok.verb c.width.ensures.exact c.in-Ok.ensures c.requires (elim c.in_default-get.ensures.lookup.0 [ inl none ↦ absurd (omega arith) | inr few ↦ few ])
+
+pub returns : goal.returns
+returns c = let h = c.in-Some.ensures.lookup.0 in
+    read_whole c.args.script.now c.args.at c.width.result c.in-Ok.verb c.width.ensures.exact c.in-Ok.ensures c.in-Some.operands.now c.requires h.1 h.2

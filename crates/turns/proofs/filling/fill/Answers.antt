@@ -1,51 +1,29 @@
-use Rattle.std.proofs.Common.{ℕ, List, refl, ap, rules}
-use Rattle.kinds.specs.Answers.{Answer}
+use Rattle.std.proofs.Common.{◌≡◌, ◌∙◌}
+use Rattle.kinds.specs.Denials.{told}
 use Rattle.lines.specs.Lines.{ok_line}
-use Rattle.model.specs.Lots.{Lot}
+use Rattle.lots.specs.Seen.{seen}
+use Rattle.model.specs.Calls.{begin, feed, feed_eight, seal, abandon, clear}
+use Rattle.turns.specs.Answers.{answer_line}
 use Rattle.turns.specs.Turns.{filled}
-use Rattle.turns.proofs.Lining.{lined_answer}
+use Rattle.turns.proofs.Lining.{called_is}
 use Rattle.turns.proofs.filling.fill.Goals as goal
+use Rattle.turns.proofs.filling.fill.Goals.{in-Begin, in-Feed, in-FeedEight, in-Seal, in-Abandon, in-Clear}
 
-pub returns-in-Begin : goal.returns-in-Begin
+pub returns : goal.returns
 unfolding filled
-returns-in-Begin g c =
-    let e = c.in-Begin.is in
-    record { after = rw e (ap (λ (t : Lot × Answer × List ℕ). t.0) c.begin.ensures); line = rw e (lined_answer _ _ _ _ _ _ _ _ c.begin.ensures ok_line c.write_answer.ensures) }
-
-pub returns-in-Feed : goal.returns-in-Feed
-unfolding filled
-returns-in-Feed g c =
-    let e = c.in-Feed.is in
-    record { after = rw e (ap (λ (t : Lot × Answer × List ℕ). t.0) c.feed.ensures); line = rw e (lined_answer _ _ _ _ _ _ _ _ c.feed.ensures ok_line c.write_answer-in-Feed.ensures) }
-
-pub returns-in-FeedEight : goal.returns-in-FeedEight
-unfolding filled
-returns-in-FeedEight g c =
-    let e = c.in-FeedEight.is in
-    record { after = rw e (ap (λ (t : Lot × Answer × List ℕ). t.0) c.feed_eight.ensures); line = rw e (lined_answer _ _ _ _ _ _ _ _ c.feed_eight.ensures ok_line c.write_answer-in-FeedEight.ensures) }
-
-pub returns-in-Seal : goal.returns-in-Seal
-unfolding filled
-returns-in-Seal g c =
-    let e = c.in-Seal.is in
-    record { after = rw e (ap (λ (t : Lot × Answer × List ℕ). t.0) c.seal.ensures); line = rw e (lined_answer _ _ _ _ _ _ _ _ c.seal.ensures ok_line c.write_answer-in-Seal.ensures) }
-
-pub returns-in-Abandon : goal.returns-in-Abandon
-unfolding filled
-returns-in-Abandon g c =
-    let e = c.in-Abandon.is in
-    record { after = rw e (ap (λ (t : Lot × Answer × List ℕ). t.0) c.abandon.ensures); line = rw e (lined_answer _ _ _ _ _ _ _ _ c.abandon.ensures ok_line c.write_answer-in-Abandon.ensures) }
-
-pub returns-in-Clear : goal.returns-in-Clear
-unfolding filled
-returns-in-Clear g c =
-    let e = c.in-Clear.is in
-    record { after = rw e (ap (λ (t : Lot × Answer × List ℕ). t.0) c.clear.ensures); line = rw e (lined_answer _ _ _ _ _ _ _ _ c.clear.ensures ok_line c.write_answer-in-Clear.ensures) }
-
-pub returns-in-Root : goal.returns-in-Root
-unfolding filled
-returns-in-Root g c = rw c.in-Root.is (record { after = refl; line = c.root_line.ensures })
-
-pub returns-in_default : goal.returns-in_default
-unfolding filled
-returns-in_default g c = search rules
+returns g c =
+    let k = g.K.Kind in
+    let lot = seen k.CAPACITY k.DIGEST c.args.lot.now in
+    let called = called_is k.CAPACITY k.DIGEST k.mapping lot c.args.at in
+    let both : (seen k.CAPACITY k.DIGEST c.match-order.lot ≡ (filled k.CAPACITY k.DIGEST k.mapping lot c.args.order c.args.at).0)
+    × (answer_line (told c.match-order.answer) ok_line c.args.at ≡ (filled k.CAPACITY k.DIGEST k.mapping lot c.args.order c.args.at).1) =
+    elim c.match-order.branch [
+      | in-Begin w ↦ rw (w.lot-is, w.answer-is, w.in-Begin.is) (called (begin w.in-Begin.station w.in-Begin.place w.in-Begin.length) _ _ _ w.begin-answer.ensures)
+      | in-Feed w ↦ rw (w.lot-is, w.answer-is, w.in-Feed.is) (called (feed w.in-Feed.station w.in-Feed.word) _ _ _ w.feed-answer.ensures)
+      | in-FeedEight w ↦ rw (w.lot-is, w.answer-is, w.in-FeedEight.is) (called (feed_eight w.in-FeedEight.station w.in-FeedEight.words) _ _ _ w.feed_eight-answer.ensures)
+      | in-Seal w ↦ rw (w.lot-is, w.answer-is, w.in-Seal.is) (called (seal w.in-Seal.station) _ _ _ w.seal-answer.ensures)
+      | in-Abandon w ↦ rw (w.lot-is, w.answer-is, w.in-Abandon.is) (called (abandon w.in-Abandon.station) _ _ _ w.abandon-answer.ensures)
+      | in-Clear w ↦ rw (w.lot-is, w.answer-is, w.in-Clear.is) (called (clear w.in-Clear.place) _ _ _ w.clear-answer.ensures)
+    ]
+    in
+    record { after = both.0; line = c.answer_line.ensures ∙ rw (c.ok_line.ensures) both.1 }

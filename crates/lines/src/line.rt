@@ -1,0 +1,68 @@
+ghost use Rattle.std.specs.Prelude.{◌≡◌, ℕ, ◌+◌, ◌≤◌, List, [], ◌++◌, length, take, decimal};
+ghost use Rattle.lines.specs.Lines.{spaced};
+
+use std::marker::Model;
+
+// A line of at most 1,024 bytes, in memory of its own. Clauses see its bytes.
+#[derive(Drop)]
+pub struct Line {
+    bytes: [u8; 1024],
+    len: usize,
+}
+
+impl Model for Line {
+    ghost Value = { List ℕ };
+
+    ghost view = { λ line. take line.len line.bytes };
+
+    ghost invariant = { λ line. line.len ≤ 1024 };
+}
+
+impl Line {
+    pub fn new() -> Line
+        ensures { result ≡ [] }
+    {
+        Line {
+            bytes: [0; 1024],
+            len: 0,
+        }
+    }
+
+    pub fn as_bytes(&self) -> &[u8]
+        ensures is { result.now ≡ self.now }
+        ensures short { length result.now ≤ 1024 }
+    {
+        &self.bytes[..self.len]
+    }
+
+    pub fn push_text(&mut self, text: &[u8])
+        requires { length self.old + length text.now ≤ 1024 }
+        ensures { self.new ≡ self.old ++ text.now }
+    {
+        let end = self.len + text.len();
+        self.bytes[self.len..end].copy_from_slice(text);
+        self.len = end;
+    }
+
+    // The number in decimal. Room for 20 digits is asked whatever the number is, so that callers can count.
+    pub fn push_number(&mut self, n: u64)
+        requires { length self.old + 20 ≤ 1024 }
+        ensures written { self.new ≡ self.old ++ decimal n }
+        ensures short { length self.new ≤ length self.old + 20 }
+    {
+        if n >= 10 {
+            self.push_number(n / 10);
+        }
+        self.push_text(&[48 + (n % 10) as u8]);
+    }
+
+    // A space and the number.
+    pub fn push_spaced_number(&mut self, n: u64)
+        requires { length self.old + 21 ≤ 1024 }
+        ensures written { self.new ≡ self.old ++ spaced (decimal n) }
+        ensures short { length self.new ≤ length self.old + 21 }
+    {
+        self.push_text(b" ");
+        self.push_number(n);
+    }
+}
