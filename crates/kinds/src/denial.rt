@@ -98,3 +98,14 @@ impl fmt::Display for Layer {
         f.write_str(self.word())
     }
 }
+
+// The number, the layer, and the index of a word where there is one.
+impl fmt::Display for Denial {
+    fn fmt<W: fmt::Write>(&self, f: &mut fmt::Formatter<W>) -> fmt::Result {
+        write!(f, "{} {}", self.number(), self.layer())?;
+        match self.index() {
+            Some(i) => write!(f, " {i}"),
+            None => Ok(()),
+        }
+    }
+}

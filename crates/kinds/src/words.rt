@@ -2,25 +2,13 @@ ghost use Rattle.std.specs.Prelude.{◌≡◌, ◌≤◌, [], ◌∷◌, IfOk, n
 ghost use Rattle.field.specs.Field.{p, Elements};
 ghost use Rattle.kinds.specs.Answers.{answer};
 ghost use Rattle.kinds.specs.Denials.{told};
-ghost use Rattle.kinds.specs.Words.{first_bad, not_elements_past};
+ghost use Rattle.kinds.specs.Words.{not_elements_past};
 
 use crate::denial::Denial;
 use field::element::P;
 
-// How many words stand before the first that is no element.
-pub fn first_bad(words: &[u64]) -> usize
-    ensures { result ≡ first_bad words.now }
-{
-    for (i, x) in words.iter().enumerate() {
-        if *x >= P {
-            return i;
-        }
-    }
-    words.len()
-}
-
 // Where the first word stands that is no element.
-fn bad_place(words: &[u64]) -> Option<usize>
+pub fn first_bad(words: &[u64]) -> Option<usize>
     ensures { result ≡ position (λ x. nat_le p x) words.now }
 {
     words.iter().position(|x| *x >= P)
@@ -32,7 +20,7 @@ pub fn admit(before: usize, words: &[u64]) -> Result<(), Denial>
     ensures answer { told result ≡ answer (not_elements_past before words.now ∷ []) }
     ensures each { IfOk result (λ done. Elements words.now) }
 {
-    match bad_place(words) {
+    match first_bad(words) {
         Some(i) => Err(Denial::NotElement(before + i)),
         None => Ok(()),
     }
