@@ -7,10 +7,7 @@ use openings::opening::Opening;
 use std::io;
 
 // The clash of two openings at the drill kind: depth, place and root, and twice a record of two words and a path of one.
-pub(crate) fn print_clash(rt: &impl Print, n: &[u64]) -> io::Result<()> {
-    if n.len() != 9 {
-        return println!(rt; "a clash takes nine numbers");
-    }
+pub(crate) fn print_clash(rt: &impl Print, n: &[u64; 9]) -> io::Result<()> {
     let depth = n[0].min(255) as u8;
     let place = medium(n[1]);
     let mut out = [0u64; 4];

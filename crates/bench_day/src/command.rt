@@ -15,27 +15,20 @@ pub enum Command {
     Close,
     Open(u16),
     // Opens a place and checks the path with a record, or with nothing, as the claim.
-    Check(u16, Vec<u64>),
-    CheckEmpty(u16),
+    Check(u16, Option<Vec<u64>>),
     // Looks for a clash of two openings at the drill kind: depth, place and root, and twice a record of two words and a
     // path of one.
-    Clash(Vec<u64>),
+    Clash([u64; 9]),
 }
 
 // A number as a station or a depth; one that is too large stays one that no lot has.
 fn small(x: u64) -> u8 {
-    match u8::try_from(x) {
-        Ok(y) => y,
-        Err(_) => u8::MAX,
-    }
+    u8::try_from(x).unwrap_or(u8::MAX)
 }
 
 // A number as a place or a length.
 pub(crate) fn medium(x: u64) -> u16 {
-    match u16::try_from(x) {
-        Ok(y) => y,
-        Err(_) => u16::MAX,
-    }
+    u16::try_from(x).unwrap_or(u16::MAX)
 }
 
 // The command of a name and a few numbers.
@@ -51,7 +44,10 @@ fn short_command(name: &str, n: &[u64]) -> Option<Command> {
         ("abandon", [s]) => Some(Command::Abandon(small(*s))),
         ("clear", [p]) => Some(Command::Clear(medium(*p))),
         ("open", [p]) => Some(Command::Open(medium(*p))),
-        ("check-empty", [p]) => Some(Command::CheckEmpty(medium(*p))),
+        ("check-empty", [p]) => Some(Command::Check(medium(*p), None)),
+        ("clash", [a, b, c, d, e, f, g, h, i]) => {
+            Some(Command::Clash([*a, *b, *c, *d, *e, *f, *g, *h, *i]))
+        }
         _ => None,
     }
 }
@@ -67,12 +63,9 @@ fn bare_command(name: &str) -> Option<Command> {
 
 // The command of a name and numbers.
 fn command_of(name: &str, mut numbers: Vec<u64>) -> Option<Command> {
-    if name == "clash" && numbers.len() == 9 {
-        return Some(Command::Clash(numbers));
-    }
     if name == "check" && numbers.len() > 0 {
         let place = numbers.remove(0);
-        return Some(Command::Check(medium(place), numbers));
+        return Some(Command::Check(medium(place), Some(numbers)));
     }
     short_command(name, &numbers)
 }
@@ -87,8 +80,5 @@ pub(crate) fn parse_command(heap: Global, line: usize, text: &str) -> Result<Com
         }
         None => bare_command(text),
     };
-    match found {
-        Some(command) => Ok(command),
-        None => Err(Unread::NoCommand { line }),
-    }
+    found.ok_or(Unread::NoCommand { line })
 }

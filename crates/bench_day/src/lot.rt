@@ -73,7 +73,6 @@ fn verify<K: Kind>(
     rt: &impl Print,
     kind: &K,
     lot: &ClosedLot<K>,
-    depth: u8,
     place: u16,
     claim: Option<&[u64]>,
     root: &mut [u64],
@@ -83,15 +82,11 @@ fn verify<K: Kind>(
     if let Err(why) = lot.open(place, path) {
         return print_refusal(rt, why);
     }
-    match check(kind, root, depth, place, claim, path) {
+    match check(kind, root, lot.depth() as u8, place, claim, path) {
         Ok(true) => println!(rt; "accepted"),
         Ok(false) => println!(rt; "not accepted"),
         Err(why) => print_refusal(rt, why),
     }
-}
-
-fn nothing<'a>() -> Option<&'a [u64]> {
-    None
 }
 
 // A call of a closed lot; `root` and `path` are room for what it writes.
@@ -99,7 +94,6 @@ fn ask<K: Kind>(
     rt: &impl Print,
     kind: &K,
     lot: &ClosedLot<K>,
-    depth: u8,
     command: &Command,
     root: &mut [u64],
     path: &mut [u64],
@@ -113,17 +107,10 @@ fn ask<K: Kind>(
             let answer = lot.open(*place, path);
             print_written(rt, "path", answer, path)
         }
-        Command::Check(place, words) => verify(
-            rt,
-            kind,
-            lot,
-            depth,
-            *place,
-            Some(words.as_slice()),
-            root,
-            path,
-        ),
-        Command::CheckEmpty(place) => verify(rt, kind, lot, depth, *place, nothing(), root, path),
+        Command::Check(place, record) => {
+            let claim = record.as_deref();
+            verify(rt, kind, lot, *place, claim, root, path)
+        }
         _ => println!(rt; "not once the lot is closed"),
     }
 }
@@ -133,25 +120,17 @@ fn answer<K: Kind>(
     rt: &impl Print,
     kind: &K,
     lot: &mut Phase<K>,
-    depth: u8,
     command: &Command,
 ) -> io::Result<()> {
     let w = K::DIGEST;
     let mut root = [0u64; 16];
+    let root = &mut root[..w];
     match lot {
-        Phase::Filling(l) => fill(rt, l, command, &mut root[0..w]),
+        Phase::Filling(l) => fill(rt, l, command, root),
         Phase::Closed(l) => {
             let mut path = [0u64; 64];
-            let n = (depth as usize).saturating_mul(w).min(64);
-            ask(
-                rt,
-                kind,
-                l,
-                depth,
-                command,
-                &mut root[0..w],
-                &mut path[0..n],
-            )
+            let n = l.depth() * w;
+            ask(rt, kind, l, command, root, &mut path[..n])
         }
     }
 }
@@ -169,15 +148,13 @@ fn close<K: Kind + Drop>(lot: Phase<K>) -> Phase<K> {
 pub(crate) fn turn<K: Kind + Drop>(
     rt: &impl Print,
     kind: &K,
-    lot: Phase<K>,
-    depth: u8,
+    mut lot: Phase<K>,
     command: &Command,
 ) -> io::Result<Phase<K>> {
     if let Command::Close = command {
         println!(rt; "ok")?;
         return Ok(close(lot));
     }
-    let mut lot = lot;
-    answer(rt, kind, &mut lot, depth, command)?;
+    answer(rt, kind, &mut lot, command)?;
     Ok(lot)
 }

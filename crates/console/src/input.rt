@@ -1,5 +1,6 @@
 ghost use Rattle.std.specs.Prelude.{◌≤◌, IfOk, vec_len};
 
+use rpo_kinds::names::KindName;
 use std::alloc::{AllocError, AllocFailed};
 use std::io::Read;
 use std::{fmt, io};
@@ -76,21 +77,13 @@ pub fn slurp(rt: &HostRuntime) -> Result<Vec<u8>, Unread>
     Err(Unread::TooLong)
 }
 
-// The kinds that the programs know.
-#[derive(Clone, Copy)]
-pub enum KindName {
-    Drill,
-    Rpo128,
-    Rpo160,
-}
-
 // The kind of a name or a number.
-pub fn kind_of(text: &str) -> Option<KindName> {
+pub fn kind_of(text: &str) -> Result<KindName, Unread> {
     match text {
-        "drill" | "0" => Some(KindName::Drill),
-        "rpo-128" | "1" => Some(KindName::Rpo128),
-        "rpo-160" | "2" => Some(KindName::Rpo160),
-        _ => None,
+        "drill" | "0" => Ok(KindName::Drill),
+        "rpo-128" | "1" => Ok(KindName::Rpo128),
+        "rpo-160" | "2" => Ok(KindName::Rpo160),
+        _ => Err(Unread::NoKind),
     }
 }
 

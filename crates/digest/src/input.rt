@@ -1,4 +1,5 @@
-use console::input::{KindName, Unread, kind_of, parse_numbers};
+use console::input::{Unread, kind_of, parse_numbers};
+use rpo_kinds::names::KindName;
 use std::alloc::Global;
 
 // What is asked: a kind, and the words of a record.
@@ -16,9 +17,7 @@ pub(crate) fn parse(heap: Global, bytes: &[u8]) -> Result<Input, Unread> {
     let Some(first) = lines.next() else {
         return Err(Unread::NoKind);
     };
-    let Some(kind) = kind_of(first.trim()) else {
-        return Err(Unread::NoKind);
-    };
+    let kind = kind_of(first.trim())?;
     let mut words = Vec::new(heap);
     for (i, line) in lines.enumerate() {
         parse_numbers(&mut words, i.saturating_add(2), 1, line)?;

@@ -6,8 +6,9 @@ mod report;
 
 use crate::input::{Input, parse};
 use crate::report::report;
-use console::input::{KindName, Unread, slurp};
+use console::input::{Unread, slurp};
 use kinds::drill::Drill;
+use rpo_kinds::names::KindName;
 use rpo_kinds::rpo128::Rpo128;
 use rpo_kinds::rpo160::Rpo160;
 use std::io;
@@ -19,14 +20,11 @@ fn run(rt: &HostRuntime) -> Result<Input, Unread> {
 
 fn main(rt: HostRuntime) -> io::Result<()> {
     match run(&rt) {
-        Ok(input) => {
-            let Input { kind, words } = input;
-            match kind {
-                KindName::Drill => report(&rt, &Drill, "drill", &words),
-                KindName::Rpo128 => report(&rt, &Rpo128::new(), "rpo-128", &words),
-                KindName::Rpo160 => report(&rt, &Rpo160::new(), "rpo-160", &words),
-            }
-        }
+        Ok(Input { kind, words }) => match kind {
+            KindName::Drill => report(&rt, &Drill, kind, &words),
+            KindName::Rpo128 => report(&rt, &Rpo128::new(), kind, &words),
+            KindName::Rpo160 => report(&rt, &Rpo160::new(), kind, &words),
+        },
         Err(why) => println!(rt; "cannot read: {why}"),
     }
 }

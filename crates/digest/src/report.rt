@@ -1,5 +1,6 @@
 use console::output::{print_refusal, print_words};
 use kinds::kind::Kind;
+use rpo_kinds::names::KindName;
 use sponge::digest::digest;
 use std::io;
 
@@ -37,7 +38,7 @@ fn report_in<K: Kind>(rt: &impl Print, kind: &K, words: &[u64], out: &mut [u64])
 pub(crate) fn report<K: Kind>(
     rt: &impl Print,
     kind: &K,
-    name: &str,
+    name: KindName,
     words: &[u64],
 ) -> io::Result<()> {
     let number = K::NUMBER;

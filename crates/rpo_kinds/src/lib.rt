@@ -3,6 +3,7 @@
 pub mod constants;
 pub mod laws;
 pub mod mixing;
+pub mod names;
 pub mod parameters;
 pub mod reversing;
 pub mod rpo128;

@@ -1,8 +1,10 @@
-use crate::cases::{Call, Case, Named};
+use crate::cases::{Call, Case};
 use crate::report::report;
+use kinds::denial::Denial;
 use kinds::drill::Drill;
 use kinds::kind::Kind;
 use kinds::permuting::permute;
+use rpo_kinds::names::KindName;
 use rpo_kinds::reversing::{Reversible, reverse};
 use rpo_kinds::rpo128::Rpo128;
 use rpo_kinds::rpo160::Rpo160;
@@ -29,59 +31,54 @@ impl Kinds {
     }
 }
 
-fn run_digest<K: Kind>(rt: &HostRuntime, kind: &K, words: &[u64], room: usize) -> io::Result<()> {
-    let before = vec![in rt.alloc(); PATTERN; room]?;
-    let mut out = vec![in rt.alloc(); PATTERN; room]?;
-    let answer = digest(kind, words, &mut out);
-    report(rt, answer, &before, &out)
-}
-
-fn run_pair<K: Kind>(
+// Makes a call on a copy of a buffer, and writes its answer.
+fn run<F: FnOnce(&mut [u64]) -> Result<(), Denial>>(
     rt: &HostRuntime,
-    kind: &K,
-    a: &[u64],
-    b: &[u64],
+    before: &[u64],
+    call: F,
+) -> io::Result<()>
+    requires { F.IsAlwaysCallable call }
+{
+    let mut after = Vec::from_slice(rt.alloc(), before)?;
+    let answer = call(&mut after);
+    report(rt, answer, before, &after)
+}
+
+// The same on a buffer of that many words.
+fn run_on<F: FnOnce(&mut [u64]) -> Result<(), Denial>>(
+    rt: &HostRuntime,
     room: usize,
-) -> io::Result<()> {
+    call: F,
+) -> io::Result<()>
+    requires { F.IsAlwaysCallable call }
+{
     let before = vec![in rt.alloc(); PATTERN; room]?;
-    let mut out = vec![in rt.alloc(); PATTERN; room]?;
-    let answer = two_to_one(kind, a, b, &mut out);
-    report(rt, answer, &before, &out)
-}
-
-fn run_permute<K: Kind>(rt: &HostRuntime, kind: &K, before: &[u64]) -> io::Result<()> {
-    let mut state = Vec::from_slice(rt.alloc(), before)?;
-    let answer = permute(kind, &mut state);
-    report(rt, answer, before, &state)
-}
-
-fn run_reverse<K: Reversible>(rt: &HostRuntime, kind: &K, before: &[u64]) -> io::Result<()> {
-    let mut state = Vec::from_slice(rt.alloc(), before)?;
-    let answer = reverse(kind, &mut state);
-    report(rt, answer, before, &state)
+    run(rt, &before, call)
 }
 
 // A call on any kind. Not every kind has a reverse.
 fn run_any<K: Kind>(rt: &HostRuntime, kind: &K, case: &Case) -> io::Result<()> {
+    let first = case.first.as_slice();
+    let second = case.second.as_slice();
     match case.call {
-        Call::Digest { room } => run_digest(rt, kind, &case.first, room),
-        Call::Pair { room } => run_pair(rt, kind, &case.first, &case.second, room),
-        Call::Permute => run_permute(rt, kind, &case.first),
+        Call::Digest { room } => run_on(rt, room, |out| digest(kind, first, out)),
+        Call::Pair { room } => run_on(rt, room, |out| two_to_one(kind, first, second, out)),
+        Call::Permute => run(rt, first, |state| permute(kind, state)),
         Call::Reverse => println!(rt; "this kind has no reverse"),
     }
 }
 
-fn run_reversible<K: Kind + Reversible>(rt: &HostRuntime, kind: &K, case: &Case) -> io::Result<()> {
+fn run_reversible<K: Reversible>(rt: &HostRuntime, kind: &K, case: &Case) -> io::Result<()> {
     match case.call {
-        Call::Reverse => run_reverse(rt, kind, &case.first),
+        Call::Reverse => run(rt, &case.first, |state| reverse(kind, state)),
         _ => run_any(rt, kind, case),
     }
 }
 
 pub(crate) fn run_case(rt: &HostRuntime, kinds: &Kinds, case: &Case) -> io::Result<()> {
     match case.kind {
-        Named::Drill => run_any(rt, &Drill, case),
-        Named::Rpo128 => run_reversible(rt, &kinds.rpo128, case),
-        Named::Rpo160 => run_reversible(rt, &kinds.rpo160, case),
+        KindName::Drill => run_any(rt, &Drill, case),
+        KindName::Rpo128 => run_reversible(rt, &kinds.rpo128, case),
+        KindName::Rpo160 => run_reversible(rt, &kinds.rpo160, case),
     }
 }

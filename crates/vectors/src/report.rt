@@ -1,4 +1,3 @@
-use console::output::layer_name;
 use kinds::denial::Denial;
 use std::io;
 
@@ -12,18 +11,13 @@ pub(crate) fn show_words(rt: &impl Print, words: &[u64]) -> io::Result<()> {
     println!(rt)
 }
 
-// A denial: its number, its layer, the index of a word where it has one, and whether it left its buffer.
+// A denial, and whether it left its buffer.
 pub(crate) fn show_denial(rt: &impl Print, why: Denial, kept: bool) -> io::Result<()> {
-    let number = why.number();
-    let layer = layer_name(why.layer());
-    print!(rt; "no {number} {layer}")?;
-    if let Some(i) = why.index() {
-        print!(rt; " {i}")?;
+    if kept {
+        println!(rt; "no {why}")
+    } else {
+        println!(rt; "no {why} changed")
     }
-    if !kept {
-        print!(rt; " changed")?;
-    }
-    println!(rt)
 }
 
 // The line of an answer, from the buffer as it was before the call and as the call left it.
