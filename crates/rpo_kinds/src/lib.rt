@@ -2,6 +2,7 @@
 
 pub mod constants;
 pub mod laws;
+pub mod names;
 pub mod reversing;
 pub mod rpo128;
 pub mod rpo160;

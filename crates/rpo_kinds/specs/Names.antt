@@ -1,0 +1,16 @@
+-- The kinds by their numbers.
+use Rattle.std.specs.Prelude.{ℕ, cond, Some, None, Ok, Err, Option, Result, ◌==◌}
+use Rattle.rpo_kinds.specs.declared.names.KindName.{KindName}
+use Rattle.rpo_kinds.specs.declared.names.KindName.TheVariants as kind
+use Rattle.rpo_kinds.specs.declared.names.UnknownKind.{UnknownKind}
+
+abbrev pub name_of : ℕ → Option KindName
+name_of byte = cond (byte == 0) (Some kind.Drill) (cond (byte == 1) (Some kind.Rpo128) (cond (byte == 2) (Some kind.Rpo160) None))
+
+-- the same, as a result
+abbrev pub named : Option KindName → Result KindName UnknownKind
+named None = Err (record {})
+named (Some name) = Ok name
+
+abbrev pub kind_named : ℕ → Result KindName UnknownKind
+kind_named number = named (name_of number)
