@@ -1,8 +1,10 @@
 -- The lines of a transcript, byte for byte: parts split by single spaces, numbers in decimal, a line feed at the end.
-use Rattle.std.specs.Prelude.{ℕ, ◌+◌, List, [], ◌∷◌, ◌++◌, map, length, drop, codes, decimal}
+use Rattle.std.specs.Prelude.{ℕ, List, [], ◌∷◌, ◌++◌, map, length, drop, codes, decimal}
 use Rattle.std.specs.List.{flat_map}
 use Rattle.kinds.specs.declared.denial.Layer.{Layer}
 use Rattle.kinds.specs.Denials.{layer_word}
+use Rattle.lines.specs.declared.writing.Heading.{Heading}
+use Rattle.lines.specs.declared.writing.Heading.TheVariants as heading
 
 -- the bytes with a text over their start
 abbrev pub over : List ℕ → List ℕ → List ℕ
@@ -18,6 +20,11 @@ line first parts = first ++ flat_map spaced parts ++ codes "\n"
 -- a word and numbers
 abbrev pub numbers_line : List ℕ → List ℕ → List ℕ
 numbers_line word ns = line word (map decimal ns)
+
+-- the words of the lines of numbers
+abbrev pub heading_word : Heading → List ℕ
+heading_word heading.Root = codes "root"
+heading_word heading.Path = codes "path"
 
 -- the four lines
 

@@ -1,8 +1,15 @@
 ghost use Rattle.std.specs.Prelude.{◌≡◌, ◌+◌, ◌*◌, ◌≤◌, length};
-ghost use Rattle.lines.specs.Lines.{numbers_line, ok_line, root_line, path_line, no_line};
+ghost use Rattle.lines.specs.Lines.{numbers_line, ok_line, heading_word, no_line};
 
 use crate::line::Line;
 use kinds::denial::Layer;
+
+// What the numbers of a line are: the tree value, or the path of a place.
+#[derive(Clone, Copy)]
+pub enum Heading {
+    Root,
+    Path,
+}
 
 pub fn ok_line() -> Line
     ensures { result ≡ ok_line }
@@ -26,18 +33,24 @@ pub fn numbers_line(word: &[u8], numbers: &[u64]) -> Line
     line
 }
 
-pub fn root_line(numbers: &[u64]) -> Line
-    requires { 21 * length numbers.now + 5 ≤ 1024 }
-    ensures { result ≡ root_line numbers.now }
-{
-    numbers_line(b"root", numbers)
-}
+impl Heading {
+    fn word(self) -> &'static [u8]
+        ensures is { result.now ≡ heading_word self }
+        ensures short { length result.now ≡ 4 }
+    {
+        match self {
+            Heading::Root => b"root",
+            Heading::Path => b"path",
+        }
+    }
 
-pub fn path_line(numbers: &[u64]) -> Line
-    requires { 21 * length numbers.now + 5 ≤ 1024 }
-    ensures { result ≡ path_line numbers.now }
-{
-    numbers_line(b"path", numbers)
+    // The line of the numbers.
+    pub fn line(self, numbers: &[u64]) -> Line
+        requires { 21 * length numbers.now + 5 ≤ 1024 }
+        ensures { result ≡ numbers_line (heading_word self) numbers.now }
+    {
+        numbers_line(self.word(), numbers)
+    }
 }
 
 // A refusal: its number, its layer, and the offset of the command.

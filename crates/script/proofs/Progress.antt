@@ -1,13 +1,14 @@
--- With each line, less of the script is left to read.
-use Rattle.std.proofs.Common.{◌≡◌, ℕ, ◌+◌, ◌-◌, ◌<◌, ◌≤◌, Bool, true, false, ltb, leb, List, length, get_or, Some, None, Ok, Err, Option, sym, refl, ap, subst, arith}
-use Rattle.std.proofs.lemmas.Bool.{cond_both, leb-true, true≢false}
+-- Each line is what the definition says, and with it less of the script is left to read.
+use Rattle.std.proofs.Common.{◌≡◌, ℕ, ◌+◌, ◌-◌, ◌<◌, ◌≤◌, Bool, true, false, ltb, leb, List, ◌++◌, length, drop, get_or, Some, None, Ok, Err, Option, Result, sym, refl, ap, subst, arith}
+use Rattle.std.proofs.lemmas.Bool.{cond_both, leb-true, le-ltb, true≢false}
+use Rattle.kinds.specs.declared.denial.Denial.{Denial}
 use Rattle.reader.specs.declared.verbs.Verb.{Verb}
 use Rattle.reader.specs.declared.phases.Phase.{Phase}
 use Rattle.reader.specs.Verbs.{verb_of, width_of}
 use Rattle.reader.specs.Commands.{Reading, read_as, read_command, read_at}
 use Rattle.reader.specs.Phases.{in_phase}
 use Rattle.script.specs.Stages.{phase_in}
-use Rattle.script.specs.Runs.{Run, phased, next_in, next_command, turn, left_by, left}
+use Rattle.script.specs.Runs.{Run, phased, next_in, next_command, turn, next_line, left_by, left}
 
 -- a command that is read ends after its place and within the script
 abbrev On : List ℕ → ℕ → Reading → Type 0
@@ -61,3 +62,8 @@ line_falls r (Ok x) e =
     let on : OnAny r.script r.at (Some (Ok x)) = subst (OnAny r.script r.at) (sym e) (on_next r (phase_in r.stage)) in
     let most = at_most (phase_in (turn r (Ok x)).0.stage) (length r.script - x.1) in
     rw (more_left (phase_in r.stage) r (Ok x) (length r.script - r.at) e) (omega arith)
+
+-- a line that is copied over the start of a buffer
+pub line_copied : (r s : Run) (out copied bytes : List ℕ) (x : Reading) → 1024 ≤ length out → Some x ≡ next_command r → s ≡ (turn r x).0 → bytes ≡ (turn r x).1 → copied ≡ bytes
+    → ◌≡◌ {A = Run × List ℕ × Result (Option ℕ) Denial} (s, copied ++ drop (length bytes) out, Ok (Some (length bytes))) (next_line r out)
+line_copied r s out copied bytes x room e after is same = rw (le-ltb (length out) 1024 room, ← e, after, same, is)

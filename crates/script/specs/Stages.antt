@@ -1,9 +1,12 @@
 -- How far the reading of a script has come, and what a command does there.
-use Rattle.std.specs.Prelude.{ℕ, cond, List, Some, None, Ok, Err, Option, Result, ◌==◌, nat_lt}
+use Rattle.std.specs.Prelude.{ℕ, cond, List, Some, None, Ok, Err, Option, Result, nat_lt}
 use Rattle.kinds.specs.declared.denial.Denial.{Denial}
 use Rattle.kinds.specs.declared.denial.Denial.TheVariants as denial
 use Rattle.kinds.specs.Kinds.{drill}
 use Rattle.rpo_kinds.specs.Mappings.{rpo_128, rpo_160}
+use Rattle.rpo_kinds.specs.Names.{name_of}
+use Rattle.rpo_kinds.specs.declared.names.KindName.{KindName}
+use Rattle.rpo_kinds.specs.declared.names.KindName.TheVariants as kind
 use Rattle.model.specs.Lots.{Lot, newly_made}
 use Rattle.model.specs.Closed as model
 use Rattle.lines.specs.Lines.{ok_line}
@@ -16,62 +19,55 @@ use Rattle.reader.specs.declared.fault.ScriptFault.TheVariants as fault
 use Rattle.turns.specs.Answers.{fault_line}
 use Rattle.turns.specs.Turns.{filled, asked}
 
--- the kinds that a script can name
-pub data Name : Type 0 where
-  drill_kind : Name
-  rpo_128_kind : Name
-  rpo_160_kind : Name
+-- the sizes and the mapping of each kind that a script can name
 
-abbrev pub name_of : ℕ → Option Name
-name_of byte = cond (byte == 0) (Some drill_kind) (cond (byte == 1) (Some rpo_128_kind) (cond (byte == 2) (Some rpo_160_kind) None))
+abbrev pub capacity : KindName → ℕ
+capacity kind.Drill = 1
+capacity kind.Rpo128 = 4
+capacity kind.Rpo160 = 6
 
-abbrev pub capacity : Name → ℕ
-capacity drill_kind = 1
-capacity rpo_128_kind = 4
-capacity rpo_160_kind = 6
+abbrev pub digest : KindName → ℕ
+digest kind.Drill = 1
+digest kind.Rpo128 = 4
+digest kind.Rpo160 = 5
 
-abbrev pub digest : Name → ℕ
-digest drill_kind = 1
-digest rpo_128_kind = 4
-digest rpo_160_kind = 5
-
-abbrev pub mixing : Name → List ℕ → List ℕ
-mixing drill_kind = drill
-mixing rpo_128_kind = rpo_128
-mixing rpo_160_kind = rpo_160
+abbrev pub mixing : KindName → List ℕ → List ℕ
+mixing kind.Drill = drill
+mixing kind.Rpo128 = rpo_128
+mixing kind.Rpo160 = rpo_160
 
 -- the calls of a lot, by the name of its kind
 
-abbrev pub any_filled : Name × Lot → Order → ℕ → (Name × Lot) × List ℕ
+abbrev pub any_filled : KindName × Lot → Order → ℕ → (KindName × Lot) × List ℕ
 any_filled l o at =
     ((l.0, (filled (capacity l.0) (digest l.0) (mixing l.0) l.1 o at).0), (filled (capacity l.0) (digest l.0) (mixing l.0) l.1 o at).1)
 
-unfoldable pub any_closed : Name × Lot → Name × model.Closed
+unfoldable pub any_closed : KindName × Lot → KindName × model.Closed
 any_closed l = (l.0, model.closed (capacity l.0) (digest l.0) (mixing l.0) l.1)
 
-abbrev pub any_asked : Name × model.Closed → Order → ℕ → List ℕ
+abbrev pub any_asked : KindName × model.Closed → Order → ℕ → List ℕ
 any_asked l o at = asked (digest l.0) l.1 o at
 
 -- refusal 1: depth above 8
 abbrev pub new_lot : ℕ → ℕ → Result Lot Denial
 new_lot w depth = cond (nat_lt 8 depth) (Err denial.DepthTooLarge) (Ok (newly_made w depth))
 
-abbrev pub named_lot : Name → Result Lot Denial → Result (Name × Lot) ScriptFault
+abbrev pub named_lot : KindName → Result Lot Denial → Result (KindName × Lot) ScriptFault
 named_lot k (Ok l) = Ok (k, l)
 named_lot k (Err d) = Err (fault.Denied d)
 
 -- refusal 18 (unknown kind), then 1
-abbrev pub started_as : Option Name → ℕ → ℕ → Result (Name × Lot) ScriptFault
+abbrev pub started_as : Option KindName → ℕ → ℕ → Result (KindName × Lot) ScriptFault
 started_as None depth at = Err (fault.UnknownKind at)
 started_as (Some k) depth at = named_lot k (new_lot (digest k) depth)
 
-unfoldable pub started : ℕ → ℕ → ℕ → Result (Name × Lot) ScriptFault
+unfoldable pub started : ℕ → ℕ → ℕ → Result (KindName × Lot) ScriptFault
 started byte depth at = started_as (name_of byte) depth at
 
 pub data Stage : Type 0 where
   before : Stage
-  filling : (lot : Name × Lot) → Stage
-  closed : (lot : Name × model.Closed) → Stage
+  filling : (lot : KindName × Lot) → Stage
+  closed : (lot : KindName × model.Closed) → Stage
   ended : Stage
 
 abbrev pub phase_in : Stage → Option Phase
@@ -86,7 +82,7 @@ abbrev pub out_of_phase : ℕ → Stage × List ℕ
 out_of_phase at = (ended, fault_line (fault.OutOfPhase at) at)
 
 -- a start that is denied ends the reading
-abbrev pub start_with : Result (Name × Lot) ScriptFault → ℕ → Stage × List ℕ
+abbrev pub start_with : Result (KindName × Lot) ScriptFault → ℕ → Stage × List ℕ
 start_with (Ok l) at = (filling l, ok_line)
 start_with (Err f) at = (ended, fault_line f at)
 

@@ -1,9 +1,9 @@
-ghost use Rattle.std.specs.Prelude.{◌≡◌, ◌≤◌, length};
-ghost use Rattle.turns.specs.Answers.{Lined};
+ghost use Rattle.std.specs.Prelude.{◌≡◌};
 ghost use Rattle.script.specs.Stages.{any_filled, any_closed, any_asked};
 ghost use Rattle.script.specs.Shown.{shown_lot, shown_closed};
 
 use kinds::drill::Drill;
+use lines::line::Line;
 use lots::closed::ClosedLot;
 use lots::lot::Lot;
 use reader::orders::Order;
@@ -29,19 +29,20 @@ pub enum AnyClosed {
 }
 
 impl AnyLot {
-    // Runs a command that is in its phase, and writes its line.
-    pub(crate) fn fill(&mut self, order: Order, at: usize, out: &mut [u8]) -> usize
-        requires { 1024 ≤ length out.old }
+    // Runs a command that is in its phase, and gives its line.
+    #[tactic(auto, unfolding(crate::specs::Shown::shown_lot))]
+    pub(crate) fn fill(&mut self, order: Order, at: usize) -> Line
         ensures after { shown_lot self.new ≡ (any_filled (shown_lot self.old) order at).0 }
-        ensures line { Lined (any_filled (shown_lot self.old) order at).1 out.old out.new result }
+        ensures line { result ≡ (any_filled (shown_lot self.old) order at).1 }
     {
         match self {
-            AnyLot::Drill(lot) => fill(lot, order, at, out),
-            AnyLot::Rpo128(lot) => fill(lot, order, at, out),
-            AnyLot::Rpo160(lot) => fill(lot, order, at, out),
+            AnyLot::Drill(lot) => fill(lot, order, at),
+            AnyLot::Rpo128(lot) => fill(lot, order, at),
+            AnyLot::Rpo160(lot) => fill(lot, order, at),
         }
     }
 
+    #[tactic(auto, unfolding(crate::specs::Shown::shown_lot, crate::specs::Shown::shown_closed, crate::specs::Stages::any_closed))]
     pub(crate) fn close(self) -> AnyClosed
         ensures { shown_closed result ≡ any_closed (shown_lot self) }
     {
@@ -54,15 +55,15 @@ impl AnyLot {
 }
 
 impl AnyClosed {
-    // Runs a command that is in its phase, and writes its line.
-    pub(crate) fn ask(&self, order: Order, at: usize, out: &mut [u8]) -> usize
-        requires { 1024 ≤ length out.old }
-        ensures { Lined (any_asked (shown_closed self.now) order at) out.old out.new result }
+    // Runs a command that is in its phase, and gives its line.
+    #[tactic(auto, unfolding(crate::specs::Shown::shown_closed))]
+    pub(crate) fn ask(&self, order: Order, at: usize) -> Line
+        ensures { result ≡ any_asked (shown_closed self.now) order at }
     {
         match self {
-            AnyClosed::Drill(lot) => ask(lot, order, at, out),
-            AnyClosed::Rpo128(lot) => ask(lot, order, at, out),
-            AnyClosed::Rpo160(lot) => ask(lot, order, at, out),
+            AnyClosed::Drill(lot) => ask(lot, order, at),
+            AnyClosed::Rpo128(lot) => ask(lot, order, at),
+            AnyClosed::Rpo160(lot) => ask(lot, order, at),
         }
     }
 }

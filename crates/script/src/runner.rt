@@ -1,18 +1,18 @@
-ghost use Rattle.std.specs.Prelude.{◌≡◌, ◌≤◌, length, IfOk};
+ghost use Rattle.std.specs.Prelude.{◌≡◌, IfOk};
 ghost use Rattle.reader.specs.Commands.{told, all_told};
-ghost use Rattle.turns.specs.Answers.{Lined};
 ghost use Rattle.script.specs.Runs.{fresh, next_command, turn, next_line, Promised};
 ghost use Rattle.script.specs.Shown.{shown};
 
 use crate::stage::Stage;
 use crate::waiting::Waiting;
 use kinds::denial::Denial;
+use lines::line::Line;
 use reader::commands::Command;
 use reader::fault::ScriptFault;
 use reader::orders::Order;
 use reader::reading::read_at;
 use std::alloc::{AllocError, Global};
-use turns::answers::write_fault;
+use turns::answers::fault_line;
 
 // A script that is being run: the place of the next command, and the lot so far.
 #[derive(Drop)]
@@ -36,43 +36,36 @@ impl<'a> Runner<'a> {
     }
 
     // The command that is next, or the fault that stands there; none where the reading is at its end.
+    #[tactic(auto, unfolding(crate::specs::Runs::next_command))]
     fn next_command(&self) -> Option<Result<(Command<'a>, usize), ScriptFault>>
         ensures { all_told result ≡ next_command (shown self.now) }
     {
-        let Some(phase) = self.stage.phase() else {
-            return None;
-        };
+        let phase = self.stage.phase()?;
         if self.script.len() > 65536 {
             return Some(Err(ScriptFault::TooLong));
         }
-        match read_at(self.script, self.at) {
-            Some(Ok((command, after))) => {
-                if phase.allows(command.verb()) {
-                    Some(Ok((command, after)))
-                } else {
-                    Some(Err(ScriptFault::OutOfPhase(self.at)))
-                }
-            }
-            Some(Err(fault)) => Some(Err(fault)),
-            None => None,
+        let at = self.at;
+        match read_at(self.script, at)? {
+            Ok((read, _)) if !phase.allows(read.verb) => Some(Err(ScriptFault::OutOfPhase(at))),
+            next => Some(next),
         }
     }
 
     // The line of a command, or of a fault of the script, which ends the reading.
-    fn turn(&mut self, next: Result<(Command<'_>, usize), ScriptFault>, out: &mut [u8]) -> usize
-        requires { 1024 ≤ length out.old }
+    #[tactic(auto, unfolding(crate::specs::Runs::turn))]
+    fn turn(&mut self, next: Result<(Command<'_>, usize), ScriptFault>) -> Line
         ensures after { shown self.new ≡ (turn (shown self.old) (told next.entry)).0 }
-        ensures line { Lined (turn (shown self.old) (told next.entry)).1 out.old out.new result }
+        ensures line { result ≡ (turn (shown self.old) (told next.entry)).1 }
     {
         let at = self.at;
         match next {
             Ok((command, after)) => {
                 self.at = after;
-                self.stage.act(Order::of(command), at, out)
+                self.stage.act(Order::from(command), at)
             }
             Err(fault) => {
                 self.stage = Stage::Ended;
-                write_fault(fault, at, out)
+                fault_line(fault, at)
             }
         }
     }
@@ -85,9 +78,12 @@ impl<'a> Runner<'a> {
         if out.len() < 1024 {
             return Err(Denial::BadBuffer);
         }
-        match self.next_command() {
-            Some(next) => Ok(Some(self.turn(next, out))),
-            None => Ok(None),
-        }
+        let Some(next) = self.next_command() else {
+            return Ok(None);
+        };
+        let line = self.turn(next);
+        let bytes = line.as_bytes();
+        out[..bytes.len()].copy_from_slice(bytes);
+        Ok(Some(bytes.len()))
     }
 }

@@ -1,16 +1,16 @@
-ghost use Rattle.std.specs.Prelude.{◌≡◌, ◌≤◌, length};
-ghost use Rattle.turns.specs.Answers.{Lined};
+ghost use Rattle.std.specs.Prelude.{◌≡◌};
 ghost use Rattle.script.specs.Stages.{act, start_in, close_in, run_in, phase_in};
 ghost use Rattle.script.specs.Shown.{shown_stage};
 
 use crate::any::{AnyClosed, AnyLot};
 use crate::waiting::Waiting;
-use lines::writing::write_ok;
+use lines::line::Line;
+use lines::writing::ok_line;
 use reader::fault::ScriptFault;
 use reader::orders::Order;
 use reader::phases::Phase;
 use std::mem;
-use turns::answers::write_fault;
+use turns::answers::fault_line;
 
 // How far the reading has come, with the lot that it has then.
 #[derive(Drop)]
@@ -34,58 +34,55 @@ impl Stage {
         }
     }
 
-    fn start(&mut self, kind: u8, depth: u8, at: usize, out: &mut [u8]) -> usize
-        requires { 1024 ≤ length out.old }
+    fn start(&mut self, kind: u8, depth: u8, at: usize) -> Line
         ensures after { shown_stage self.new ≡ (start_in (shown_stage self.old) kind depth at).0 }
-        ensures line { Lined (start_in (shown_stage self.old) kind depth at).1 out.old out.new result }
+        ensures line { result ≡ (start_in (shown_stage self.old) kind depth at).1 }
     {
         let Stage::Before(lots) = mem::replace(self, Stage::Ended) else {
-            return write_fault(ScriptFault::OutOfPhase(at), at, out);
+            return fault_line(ScriptFault::OutOfPhase(at), at);
         };
         match lots.start(kind, depth, at) {
             Ok(lot) => {
                 *self = Stage::Filling(lot);
-                write_ok(out)
+                ok_line()
             }
-            Err(fault) => write_fault(fault, at, out),
+            Err(fault) => fault_line(fault, at),
         }
     }
 
-    fn close(&mut self, at: usize, out: &mut [u8]) -> usize
-        requires { 1024 ≤ length out.old }
+    fn close(&mut self, at: usize) -> Line
         ensures after { shown_stage self.new ≡ (close_in (shown_stage self.old) at).0 }
-        ensures line { Lined (close_in (shown_stage self.old) at).1 out.old out.new result }
+        ensures line { result ≡ (close_in (shown_stage self.old) at).1 }
     {
         let Stage::Filling(lot) = mem::replace(self, Stage::Ended) else {
-            return write_fault(ScriptFault::OutOfPhase(at), at, out);
+            return fault_line(ScriptFault::OutOfPhase(at), at);
         };
         *self = Stage::Closed(lot.close());
-        write_ok(out)
+        ok_line()
     }
 
     // A command that leaves the phase as it is.
-    fn run(&mut self, order: Order, at: usize, out: &mut [u8]) -> usize
-        requires { 1024 ≤ length out.old }
+    fn run(&mut self, order: Order, at: usize) -> Line
         ensures after { shown_stage self.new ≡ (run_in (shown_stage self.old) order at).0 }
-        ensures line { Lined (run_in (shown_stage self.old) order at).1 out.old out.new result }
+        ensures line { result ≡ (run_in (shown_stage self.old) order at).1 }
     {
         match self {
-            Stage::Filling(lot) => lot.fill(order, at, out),
-            Stage::Closed(lot) => lot.ask(order, at, out),
-            _ => write_fault(ScriptFault::OutOfPhase(at), at, out),
+            Stage::Filling(lot) => lot.fill(order, at),
+            Stage::Closed(lot) => lot.ask(order, at),
+            _ => fault_line(ScriptFault::OutOfPhase(at), at),
         }
     }
 
-    // Runs a command that is in its phase, and writes its line.
-    pub(crate) fn act(&mut self, order: Order, at: usize, out: &mut [u8]) -> usize
-        requires { 1024 ≤ length out.old }
+    // Runs a command that is in its phase, and gives its line.
+    #[tactic(auto, unfolding(crate::specs::Stages::act))]
+    pub(crate) fn act(&mut self, order: Order, at: usize) -> Line
         ensures after { shown_stage self.new ≡ (act (shown_stage self.old) order at).0 }
-        ensures line { Lined (act (shown_stage self.old) order at).1 out.old out.new result }
+        ensures line { result ≡ (act (shown_stage self.old) order at).1 }
     {
         match order {
-            Order::Start { kind, depth } => self.start(kind, depth, at, out),
-            Order::Close => self.close(at, out),
-            _ => self.run(order, at, out),
+            Order::Start { kind, depth } => self.start(kind, depth, at),
+            Order::Close => self.close(at),
+            _ => self.run(order, at),
         }
     }
 }

@@ -8,6 +8,7 @@ use kinds::drill::Drill;
 use kinds::kind::Kind;
 use lots::lot::Lot;
 use reader::fault::ScriptFault;
+use rpo_kinds::names::KindName;
 use rpo_kinds::rpo128::Rpo128;
 use rpo_kinds::rpo160::Rpo160;
 use std::alloc::{AllocError, Global};
@@ -21,10 +22,9 @@ pub struct Waiting {
 }
 
 // The lot, made anew.
-fn made<K: Kind + Drop>(lot: Lot<K>, depth: u8) -> Result<Lot<K>, Denial>
+fn made<K: Kind + Drop>(mut lot: Lot<K>, depth: u8) -> Result<Lot<K>, Denial>
     ensures { shown_made K.CAPACITY K.DIGEST result ≡ new_lot K.DIGEST depth }
 {
-    let mut lot = lot;
     lot.make(depth)?;
     Ok(lot)
 }
@@ -42,6 +42,7 @@ impl Waiting {
     }
 
     // The lot that the start at that place asks for.
+    #[tactic(auto, unfolding(crate::specs::Stages::started, crate::specs::Shown::shown_lot))]
     pub(crate) fn start(self, kind: u8, depth: u8, at: usize) -> Result<AnyLot, ScriptFault>
         ensures { shown_started result ≡ started kind depth at }
     {
@@ -50,11 +51,13 @@ impl Waiting {
             rpo128,
             rpo160,
         } = self;
-        match kind {
-            0 => Ok(AnyLot::Drill(made(drill, depth)?)),
-            1 => Ok(AnyLot::Rpo128(made(rpo128, depth)?)),
-            2 => Ok(AnyLot::Rpo160(made(rpo160, depth)?)),
-            _ => Err(ScriptFault::UnknownKind(at)),
+        let Ok(name) = KindName::try_from(kind) else {
+            return Err(ScriptFault::UnknownKind(at));
+        };
+        match name {
+            KindName::Drill => Ok(AnyLot::Drill(made(drill, depth)?)),
+            KindName::Rpo128 => Ok(AnyLot::Rpo128(made(rpo128, depth)?)),
+            KindName::Rpo160 => Ok(AnyLot::Rpo160(made(rpo160, depth)?)),
         }
     }
 }

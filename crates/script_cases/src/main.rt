@@ -4,7 +4,7 @@
 
 mod parts;
 
-use crate::parts::read_script;
+use crate::parts::{Unread, read_script};
 use console::input::slurp;
 use script::runner::Runner;
 use std::io;
@@ -23,9 +23,10 @@ fn run_script(rt: &HostRuntime, script: &[u8]) -> io::Result<()> {
 }
 
 fn run_line(rt: &HostRuntime, number: usize, text: &str) -> io::Result<()> {
-    match read_script(rt.alloc(), text)? {
-        Some(script) => run_script(rt, &script),
-        None => println!(rt; "cannot read line {number}"),
+    match read_script(rt.alloc(), text) {
+        Ok(script) => run_script(rt, &script),
+        Err(Unread::NoScript) => println!(rt; "cannot read line {number}"),
+        Err(Unread::NoMemory(e)) => Err(e.into()),
     }
 }
 

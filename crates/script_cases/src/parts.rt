@@ -1,7 +1,26 @@
-use std::alloc::{AllocError, Global};
+use std::alloc::{AllocError, AllocFailed, Global};
 
 // No script of the corpus is longer than this, so that no line asks for all of the memory.
 const LONGEST: usize = 100000;
+
+// Why a line gives no script.
+#[derive(Drop)]
+pub(crate) enum Unread {
+    NoScript,
+    NoMemory(AllocError),
+}
+
+impl From<AllocError> for Unread {
+    fn from(e: AllocError) -> Unread {
+        Unread::NoMemory(e)
+    }
+}
+
+impl<T: Drop> From<AllocFailed<T>> for Unread {
+    fn from(e: AllocFailed<T>) -> Unread {
+        Unread::NoMemory(e.into())
+    }
+}
 
 fn digit(b: u8) -> Option<u8> {
     match b {
@@ -12,60 +31,50 @@ fn digit(b: u8) -> Option<u8> {
 }
 
 fn byte(high: u8, low: u8) -> Option<u8> {
-    let Some(h) = digit(high) else {
-        return None;
-    };
-    let Some(l) = digit(low) else {
-        return None;
-    };
-    Some(h.wrapping_mul(16).wrapping_add(l))
+    Some(digit(high)?.wrapping_mul(16).wrapping_add(digit(low)?))
 }
 
-// Adds the bytes of a hexadecimal text, and says whether it was one. `-` stands for no bytes.
-fn push_hex(script: &mut Vec<u8>, text: &[u8]) -> Result<bool, AllocError> {
+// Adds the bytes of a hexadecimal text. `-` stands for no bytes.
+fn push_hex(script: &mut Vec<u8>, text: &[u8]) -> Result<(), Unread> {
     if text == b"-".as_slice() {
-        return Ok(true);
+        return Ok(());
     }
     for pair in text.chunks(2) {
         let [high, low] = pair else {
-            return Ok(false);
+            return Err(Unread::NoScript);
         };
-        let Some(b) = byte(*high, *low) else {
-            return Ok(false);
-        };
-        script.push(b)?;
+        script.push(byte(*high, *low).ok_or(Unread::NoScript)?)?;
     }
-    Ok(true)
+    Ok(())
 }
 
 // The same, a number of times over.
-fn push_times(script: &mut Vec<u8>, count: usize, text: &[u8]) -> Result<bool, AllocError> {
+fn push_times(script: &mut Vec<u8>, count: usize, text: &[u8]) -> Result<(), Unread> {
     for _ in 0..count {
-        if script.len() > LONGEST || !push_hex(script, text)? {
-            return Ok(false);
+        if script.len() > LONGEST {
+            return Err(Unread::NoScript);
         }
+        push_hex(script, text)?;
     }
-    Ok(true)
+    Ok(())
 }
 
 // A part: hexadecimal, with a count in front of it or not.
-fn push_part(script: &mut Vec<u8>, text: &str) -> Result<bool, AllocError> {
-    match text.split_once('*') {
-        Some((count, rest)) => match count.parse::<usize>() {
-            Ok(n) => push_times(script, n, rest.as_bytes()),
-            Err(_) => Ok(false),
-        },
-        None => push_hex(script, text.as_bytes()),
-    }
+fn push_part(script: &mut Vec<u8>, text: &str) -> Result<(), Unread> {
+    let Some((count, rest)) = text.split_once('*') else {
+        return push_hex(script, text.as_bytes());
+    };
+    let Ok(n) = count.parse::<usize>() else {
+        return Err(Unread::NoScript);
+    };
+    push_times(script, n, rest.as_bytes())
 }
 
-// The script that a line writes, or nothing where it cannot be read.
-pub(crate) fn read_script(heap: Global, text: &str) -> Result<Option<Vec<u8>>, AllocError> {
+// The script that a line writes.
+pub(crate) fn read_script(heap: Global, text: &str) -> Result<Vec<u8>, Unread> {
     let mut script = Vec::new(heap);
     for part in text.split_whitespace() {
-        if !push_part(&mut script, part)? {
-            return Ok(None);
-        }
+        push_part(&mut script, part)?;
     }
-    Ok(Some(script))
+    Ok(script)
 }

@@ -10,7 +10,9 @@ use Rattle.reader.specs.Orders.{order_of}
 use Rattle.model.specs.Calls.{Call, begin, feed, feed_eight, seal, abandon, clear, History}
 use Rattle.model.specs.Lots.{Lot, newly_made, step, run}
 use Rattle.turns.specs.Turns.{filled}
-use Rattle.script.specs.Stages.{Name, name_of, capacity, digest, mixing, any_closed, new_lot, named_lot, started_as, started, Stage, before, filling, closed, ended, start_with, start_in, close_in, run_in, act}
+use Rattle.rpo_kinds.specs.Names.{name_of}
+use Rattle.rpo_kinds.specs.declared.names.KindName.{KindName}
+use Rattle.script.specs.Stages.{capacity, digest, mixing, any_closed, new_lot, named_lot, started_as, started, Stage, before, filling, closed, ended, start_with, start_in, close_in, run_in, act}
 use Rattle.script.specs.Runs.{Run, fresh, next_command, turn}
 use Rattle.transcript.specs.Lots.{advanced_by, after_lines, LeftByCalls, OfCalls, ScriptsRunLots}
 
@@ -20,7 +22,7 @@ run_append c w F at [] js = refl
 run_append c w F at (k ∷ ks) js = run_append c w F ((step c w F at.0 k).0, (k, (step c w F at.0 k).1) ∷ at.1) ks js
 
 -- one call more
-one_more : (kind : Name) (lot : Lot) (k : Call) → LeftByCalls kind lot → LeftByCalls kind (step (capacity kind) (digest kind) (mixing kind) lot k).0
+one_more : (kind : KindName) (lot : Lot) (k : Call) → LeftByCalls kind lot → LeftByCalls kind (step (capacity kind) (digest kind) (mixing kind) lot k).0
 one_more kind lot k h =
     let c = capacity kind in
     let w = digest kind in
@@ -32,11 +34,11 @@ one_more kind lot k h =
       is_left = ap (λ l. (step c w F l k).0) h.is_left ∙ sym (ap (λ (x : Lot × History). x.0) (run_append c w F (newly_made w h.depth, []) h.calls (k ∷ [])));
     }
 
-new_left : (kind : Name) (d : ℕ) → d ≤ 8 → LeftByCalls kind (newly_made (digest kind) d)
+new_left : (kind : KindName) (d : ℕ) → d ≤ 8 → LeftByCalls kind (newly_made (digest kind) d)
 new_left kind d h = record { depth = d; calls = []; shallow = h; is_left = refl }
 
 -- a command to a lot that is filled is a call, or leaves the lot
-filled_left : (kind : Name) (lot : Lot) (o : Order) (at : ℕ) → LeftByCalls kind lot → LeftByCalls kind (filled (capacity kind) (digest kind) (mixing kind) lot o at).0
+filled_left : (kind : KindName) (lot : Lot) (o : Order) (at : ℕ) → LeftByCalls kind lot → LeftByCalls kind (filled (capacity kind) (digest kind) (mixing kind) lot o at).0
 unfolding filled
 filled_left kind lot (order.Begin s p n) at h = one_more kind lot (begin s p n) h
 filled_left kind lot (order.Feed s x) at h = one_more kind lot (feed s x) h
@@ -49,13 +51,13 @@ filled_left kind lot (order.Start k d) at h = h
 filled_left kind lot (order.Open p) at h = h
 filled_left kind lot order.Close at h = h
 
-made_left : (kind : Name) (d at : ℕ) → OfCalls (start_with (named_lot kind (new_lot (digest kind) d)) at).0
+made_left : (kind : KindName) (d at : ℕ) → OfCalls (start_with (named_lot kind (new_lot (digest kind) d)) at).0
 made_left kind d at =
     cond_both {A = Result Lot Denial} (ltb 8 d) (Err denial.DepthTooLarge) (Ok (newly_made (digest kind) d)) (λ r. OfCalls (start_with (named_lot kind r) at).0)
     (λ e. tt)
     (λ e. new_left kind d (ltb-false 8 d e))
 
-started_left : (name : Option Name) (d at : ℕ) → OfCalls (start_with (started_as name d at) at).0
+started_left : (name : Option KindName) (d at : ℕ) → OfCalls (start_with (started_as name d at) at).0
 started_left None d at = tt
 started_left (Some kind) d at = made_left kind d at
 

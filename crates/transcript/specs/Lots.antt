@@ -4,7 +4,8 @@ use Rattle.reader.specs.Commands.{Reading}
 use Rattle.model.specs.Calls.{Call}
 use Rattle.model.specs.Lots.{Lot, lot_after}
 use Rattle.model.specs.Closed as model
-use Rattle.script.specs.Stages.{Name, capacity, digest, mixing, Stage, before, filling, closed, ended}
+use Rattle.rpo_kinds.specs.declared.names.KindName.{KindName}
+use Rattle.script.specs.Stages.{capacity, digest, mixing, Stage, before, filling, closed, ended}
 use Rattle.script.specs.Runs.{Run, fresh, next_command, turn}
 
 -- one line further, where there is one
@@ -18,14 +19,14 @@ after_lines zero r = r
 after_lines (suc n) r = advanced_by (after_lines n r) (next_command (after_lines n r))
 
 -- a lot of a kind that calls leave, from one newly made with a depth of at most 8
-pub record LeftByCalls (kind : Name) (lot : Lot) : Type 0 where
+pub record LeftByCalls (kind : KindName) (lot : Lot) : Type 0 where
   pub depth : ℕ
   pub calls : List Call
   pub shallow : depth ≤ 8
   pub is_left : lot ≡ lot_after (capacity kind) (digest kind) (mixing kind) depth calls
 
 -- such a lot, closed
-pub record ClosedAfterCalls (kind : Name) (lot : model.Closed) : Type 0 where
+pub record ClosedAfterCalls (kind : KindName) (lot : model.Closed) : Type 0 where
   pub filled : Lot
   pub left : LeftByCalls kind filled
   pub is_closed : lot ≡ model.closed (capacity kind) (digest kind) (mixing kind) filled

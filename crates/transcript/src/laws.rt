@@ -2,15 +2,11 @@ ghost use Rattle.transcript.specs.Laws.{ReadingLaws};
 ghost use Rattle.transcript.specs.Lots.{ScriptsRunLots};
 
 // The laws of a reading stand.
-pub fn reading_laws() -> u8
+pub fn reading_laws()
     ensures { ReadingLaws }
-{
-    0
-}
+{}
 
 // The lot that the lines of a script speak of is what a run of lot calls leaves, so that what is promised of runs reaches the lines.
-pub fn scripts_run_lots() -> u8
+pub fn scripts_run_lots()
     ensures { ScriptsRunLots }
-{
-    0
-}
+{}

@@ -5,7 +5,7 @@ ghost use Rattle.turns.specs.Turns.{closed_root_told, open_told, asked};
 use crate::answers::{answer_line, fault_line};
 use kinds::kind::Kind;
 use lines::line::Line;
-use lines::writing::{path_line, root_line};
+use lines::writing::Heading;
 use lots::closed::ClosedLot;
 use reader::fault::ScriptFault;
 use reader::orders::Order;
@@ -17,7 +17,7 @@ fn root_told<K: Kind>(lot: &ClosedLot<K>, at: usize) -> Line
     let mut zeros = [0; 7];
     let words = &mut zeros[..K::DIGEST];
     let answer = lot.root(words);
-    answer_line(answer, root_line(words), at)
+    answer_line(answer, Heading::Root.line(words), at)
 }
 
 // The line of the path of a place. A path of at most 8 digests fits a line where a digest has at most 5 words.
@@ -28,7 +28,7 @@ fn path_told<K: Kind>(lot: &ClosedLot<K>, place: u16, at: usize) -> Line
     let mut zeros = [0; 40];
     let words = &mut zeros[..lot.depth() * K::DIGEST];
     let answer = lot.open(place, words);
-    answer_line(answer, path_line(words), at)
+    answer_line(answer, Heading::Path.line(words), at)
 }
 
 // Runs a command that is in its phase, and gives its line.

@@ -5,7 +5,7 @@ ghost use Rattle.turns.specs.Turns.{root_told, filled};
 use crate::answers::{answer_line, fault_line};
 use kinds::kind::Kind;
 use lines::line::Line;
-use lines::writing::{ok_line, root_line};
+use lines::writing::{Heading, ok_line};
 use lots::lot::Lot;
 use reader::fault::ScriptFault;
 use reader::orders::Order;
@@ -17,7 +17,7 @@ fn root_told<K: Kind>(lot: &Lot<K>, at: usize) -> Line
     let mut zeros = [0; 7];
     let words = &mut zeros[..K::DIGEST];
     let answer = lot.root(words);
-    answer_line(answer, root_line(words), at)
+    answer_line(answer, Heading::Root.line(words), at)
 }
 
 // Runs a command that is in its phase, and gives its line.
