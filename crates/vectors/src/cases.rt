@@ -1,10 +1,23 @@
-use std::alloc::{AllocError, Global};
+use rpo_kinds::names::KindName;
+use std::alloc::{AllocError, AllocFailed, Global};
 
-#[derive(Clone, Copy)]
-pub enum Named {
-    Drill,
-    Rpo128,
-    Rpo160,
+// Why a line gives no case.
+#[derive(Drop)]
+pub(crate) enum Unread {
+    NoCase,
+    NoMemory(AllocError),
+}
+
+impl From<AllocError> for Unread {
+    fn from(e: AllocError) -> Unread {
+        Unread::NoMemory(e)
+    }
+}
+
+impl<T: Drop> From<AllocFailed<T>> for Unread {
+    fn from(e: AllocFailed<T>) -> Unread {
+        Unread::NoMemory(e.into())
+    }
 }
 
 // A call. `room` is how many words its output buffer has: where it has none, the words given are the buffer.
@@ -20,7 +33,7 @@ pub enum Call {
 #[derive(Drop)]
 pub struct Case {
     pub call: Call,
-    pub kind: Named,
+    pub kind: KindName,
     pub first: Vec<u64>,
     pub second: Vec<u64>,
 }
@@ -36,36 +49,37 @@ struct Run {
 // A buffer and a run of words are no longer than this, so that no line asks for all of the memory.
 const LONGEST: usize = 65536;
 
-pub(crate) fn read_kind(text: &str) -> Option<Named> {
+pub(crate) fn read_kind(text: &str) -> Result<KindName, Unread> {
     match text {
-        "0" => Some(Named::Drill),
-        "1" => Some(Named::Rpo128),
-        "2" => Some(Named::Rpo160),
-        _ => None,
+        "0" => Ok(KindName::Drill),
+        "1" => Ok(KindName::Rpo128),
+        "2" => Ok(KindName::Rpo160),
+        _ => Err(Unread::NoCase),
     }
 }
 
-pub(crate) fn read_length(text: &str) -> Option<usize> {
+pub(crate) fn read_length(text: &str) -> Result<usize, Unread> {
     match text.parse::<usize>() {
-        Ok(n) if n <= LONGEST => Some(n),
-        _ => None,
+        Ok(n) if n <= LONGEST => Ok(n),
+        _ => Err(Unread::NoCase),
     }
 }
 
-fn read_word(text: &str) -> Option<u64> {
-    match text.parse::<u64>() {
-        Ok(x) => Some(x),
-        Err(_) => None,
+// The room of a buffer, where a head names one.
+pub(crate) fn read_room(text: Option<&str>) -> Result<Option<usize>, Unread> {
+    match text {
+        Some(part) => Ok(Some(read_length(part)?)),
+        None => Ok(None),
     }
 }
 
-fn read_run(text: &str) -> Option<Run> {
-    let (count, rest) = text.split_once('@')?;
-    let (start, step) = rest.split_once('+')?;
+fn read_run(text: &str) -> Result<Run, Unread> {
+    let (count, rest) = text.split_once('@').ok_or(Unread::NoCase)?;
+    let (start, step) = rest.split_once('+').ok_or(Unread::NoCase)?;
     let count = read_length(count)?;
-    let start = read_word(start)?;
-    let step = read_word(step)?;
-    Some(Run { count, start, step })
+    let start = start.parse::<u64>().ok().ok_or(Unread::NoCase)?;
+    let step = step.parse::<u64>().ok().ok_or(Unread::NoCase)?;
+    Ok(Run { count, start, step })
 }
 
 fn push_run(words: &mut Vec<u64>, run: Run) -> Result<(), AllocError> {
@@ -77,55 +91,42 @@ fn push_run(words: &mut Vec<u64>, run: Run) -> Result<(), AllocError> {
     Ok(())
 }
 
-// Adds a word or a run of words, and says whether the text was one.
-fn push_part(words: &mut Vec<u64>, text: &str) -> Result<bool, AllocError> {
-    if let Some(x) = read_word(text) {
-        words.push(x)?;
-        return Ok(true);
-    }
-    match read_run(text) {
-        Some(run) => {
-            push_run(words, run)?;
-            Ok(true)
-        }
-        None => Ok(false),
+// Adds a word or a run of words.
+fn push_part(words: &mut Vec<u64>, text: &str) -> Result<(), Unread> {
+    match text.parse::<u64>() {
+        Ok(x) => Ok(words.push(x)?),
+        Err(_) => Ok(push_run(words, read_run(text)?)?),
     }
 }
 
-pub(crate) fn read_words(heap: Global, text: &str) -> Result<Option<Vec<u64>>, AllocError> {
+pub(crate) fn read_words(heap: Global, text: &str) -> Result<Vec<u64>, Unread> {
     let mut words = Vec::new(heap);
     for part in text.split_whitespace() {
-        if !push_part(&mut words, part)? {
-            return Ok(None);
-        }
+        push_part(&mut words, part)?;
     }
-    Ok(Some(words))
+    Ok(words)
 }
 
-fn read_call(name: &str, room: Option<usize>) -> Option<Call> {
+fn read_call(name: &str, room: Option<usize>) -> Result<Call, Unread> {
     match (name, room) {
-        ("digest", Some(room)) => Some(Call::Digest { room }),
-        ("pair", Some(room)) => Some(Call::Pair { room }),
-        ("permute", None) => Some(Call::Permute),
-        ("reverse", None) => Some(Call::Reverse),
-        _ => None,
+        ("digest", Some(room)) => Ok(Call::Digest { room }),
+        ("pair", Some(room)) => Ok(Call::Pair { room }),
+        ("permute", None) => Ok(Call::Permute),
+        ("reverse", None) => Ok(Call::Reverse),
+        _ => Err(Unread::NoCase),
     }
 }
 
 // What stands before the first colon: a call, the number of a kind, and the room of a buffer.
-fn read_head(text: &str) -> Option<(Call, Named)> {
+fn read_head(text: &str) -> Result<(Call, KindName), Unread> {
     let mut parts = text.split_whitespace();
-    let name = parts.next()?;
-    let kind = read_kind(parts.next()?)?;
-    let room = match parts.next() {
-        Some(part) => Some(read_length(part)?),
-        None => None,
-    };
+    let name = parts.next().ok_or(Unread::NoCase)?;
+    let kind = read_kind(parts.next().ok_or(Unread::NoCase)?)?;
+    let room = read_room(parts.next())?;
     if parts.next().is_some() {
-        return None;
+        return Err(Unread::NoCase);
     }
-    let call = read_call(name, room)?;
-    Some((call, kind))
+    Ok((read_call(name, room)?, kind))
 }
 
 // The words before and after the second colon.
@@ -136,27 +137,17 @@ fn halves(call: Call, text: &str) -> Option<(&str, &str)> {
     }
 }
 
-// The case that a line writes, or nothing where it cannot be read.
-pub(crate) fn read_case(heap: Global, text: &str) -> Result<Option<Case>, AllocError> {
-    let Some((head, tail)) = text.split_once(':') else {
-        return Ok(None);
-    };
-    let Some((call, kind)) = read_head(head) else {
-        return Ok(None);
-    };
-    let Some((left, right)) = halves(call, tail) else {
-        return Ok(None);
-    };
-    let Some(first) = read_words(heap, left)? else {
-        return Ok(None);
-    };
-    let Some(second) = read_words(heap, right)? else {
-        return Ok(None);
-    };
-    Ok(Some(Case {
+// The case that a line writes.
+pub(crate) fn read_case(heap: Global, text: &str) -> Result<Case, Unread> {
+    let (head, tail) = text.split_once(':').ok_or(Unread::NoCase)?;
+    let (call, kind) = read_head(head)?;
+    let (left, right) = halves(call, tail).ok_or(Unread::NoCase)?;
+    let first = read_words(heap, left)?;
+    let second = read_words(heap, right)?;
+    Ok(Case {
         call,
         kind,
         first,
         second,
-    }))
+    })
 }

@@ -10,6 +10,7 @@ mod report;
 use crate::calls::{Kinds, run_case};
 use crate::cases::read_case;
 use crate::opened::run_opened;
+use crate::report::show_unread;
 use console::input::slurp;
 use std::io;
 
@@ -21,9 +22,9 @@ fn run_line(rt: &HostRuntime, kinds: &Kinds, number: usize, text: &str) -> io::R
     if text.starts_with("check ") || text.starts_with("find ") {
         return run_opened(rt, kinds, number, text);
     }
-    match read_case(rt.alloc(), text)? {
-        Some(case) => run_case(rt, kinds, &case),
-        None => println!(rt; "cannot read line {number}"),
+    match read_case(rt.alloc(), text) {
+        Ok(case) => run_case(rt, kinds, &case),
+        Err(why) => show_unread(rt, number, why),
     }
 }
 

@@ -1,101 +1,76 @@
 use crate::calls::{Kinds, PATTERN};
-use crate::cases::{Named, read_kind, read_length, read_words};
-use crate::report::{show_denial, show_words};
+use crate::cases::{Unread, read_kind, read_room, read_words};
+use crate::report::{show_denial, show_unread, show_words};
 use finder::clash::Clash;
 use finder::finding::find_clash;
 use kinds::drill::Drill;
 use kinds::kind::Kind;
 use openings::checking::check;
 use openings::opening::Opening;
-use std::alloc::{AllocError, Global};
+use rpo_kinds::names::KindName;
+use std::alloc::Global;
 use std::io;
 
-// The words between two colons; `-` stands for nothing, as a claim.
-#[derive(Drop)]
-struct Section {
-    words: Vec<u64>,
-    none: bool,
-}
+// The words between two colons, or nothing, as a claim, which `-` stands for.
+type Section = Option<Vec<u64>>;
 
 // What stands before the first colon: the kind, the depth, the place, and the room of the finder's buffer.
 #[derive(Clone, Copy)]
 struct Head {
-    kind: Named,
+    kind: KindName,
     depth: u8,
     place: u16,
     room: Option<usize>,
 }
 
-fn read_section(heap: Global, text: &str) -> Result<Option<Section>, AllocError> {
+fn read_section(heap: Global, text: &str) -> Result<Section, Unread> {
     if text.trim() == "-" {
-        return Ok(Some(Section {
-            words: Vec::new(heap),
-            none: true,
-        }));
+        return Ok(None);
     }
-    match read_words(heap, text)? {
-        Some(words) => Ok(Some(Section { words, none: false })),
-        None => Ok(None),
-    }
+    Ok(Some(read_words(heap, text)?))
 }
 
-fn read_head(text: &str) -> Option<Head> {
-    let mut parts = text.split_whitespace();
-    let _name = parts.next()?;
-    let kind = read_kind(parts.next()?)?;
-    let Ok(depth) = parts.next()?.parse::<u8>() else {
-        return None;
-    };
-    let Ok(place) = parts.next()?.parse::<u16>() else {
-        return None;
-    };
-    let room = match parts.next() {
-        Some(part) => Some(read_length(part)?),
-        None => None,
-    };
-    Some(Head {
+fn read_head(text: &str) -> Result<Head, Unread> {
+    let mut parts = text.split_whitespace().skip(1);
+    let kind = read_kind(parts.next().ok_or(Unread::NoCase)?)?;
+    let depth = parts.next().ok_or(Unread::NoCase)?.parse::<u8>();
+    let place = parts.next().ok_or(Unread::NoCase)?.parse::<u16>();
+    let room = read_room(parts.next())?;
+    Ok(Head {
         kind,
-        depth,
-        place,
+        depth: depth.ok().ok_or(Unread::NoCase)?,
+        place: place.ok().ok_or(Unread::NoCase)?,
         room,
     })
 }
 
 // The sections behind the head.
-fn read_sections(heap: Global, text: &str) -> Result<Option<Vec<Section>>, AllocError> {
+fn read_sections(heap: Global, text: &str) -> Result<Vec<Section>, Unread> {
     let mut all = Vec::new(heap);
     for part in text.split(':') {
-        match read_section(heap, part)? {
-            Some(section) => all.push(section)?,
-            None => return Ok(None),
-        }
+        all.push(read_section(heap, part)?)?;
     }
-    Ok(Some(all))
+    Ok(all)
 }
 
-fn nothing<'a>() -> Option<&'a [u64]> {
-    None
-}
-
-fn claim_of(section: &Section) -> Option<&[u64]> {
-    if section.none {
-        nothing()
-    } else {
-        Some(section.words.as_slice())
+fn words_of(section: &Section) -> &[u64] {
+    match section {
+        Some(words) => words,
+        None => &[],
     }
 }
 
 fn run_check<K: Kind>(rt: &HostRuntime, kind: &K, head: Head, s: &[Section]) -> io::Result<()> {
-    if s.len() != 3 {
+    let [root, claim, path] = s else {
         return println!(rt; "a check has three sections");
-    }
+    };
     match check(
         kind,
-        &s[0].words,
+        words_of(root),
         head.depth,
         head.place,
-        claim_of(&s[1]),
-        &s[2].words,
+        claim.as_deref(),
+        words_of(path),
     ) {
         Ok(true) => println!(rt; "accepted"),
         Ok(false) => println!(rt; "not accepted"),
@@ -122,22 +97,22 @@ fn run_find<K: Kind>(
     room: usize,
     s: &[Section],
 ) -> io::Result<()> {
-    if s.len() != 5 {
+    let [root, first_claim, first_path, second_claim, second_path] = s else {
         return println!(rt; "a find has five sections");
-    }
+    };
     let before = vec![in rt.alloc(); PATTERN; room]?;
     let mut out = vec![in rt.alloc(); PATTERN; room]?;
     let first = Opening {
-        claim: claim_of(&s[1]),
-        path: &s[2].words,
+        claim: first_claim.as_deref(),
+        path: words_of(first_path),
     };
     let second = Opening {
-        claim: claim_of(&s[3]),
-        path: &s[4].words,
+        claim: second_claim.as_deref(),
+        path: words_of(second_path),
     };
     let answer = find_clash(
         kind,
-        &s[0].words,
+        words_of(root),
         head.depth,
         head.place,
         first,
@@ -158,6 +133,12 @@ fn run_any<K: Kind>(rt: &HostRuntime, kind: &K, head: Head, s: &[Section]) -> io
     }
 }
 
+// The head of a line, and its sections.
+fn read_opened(heap: Global, text: &str) -> Result<(Head, Vec<Section>), Unread> {
+    let (front, rest) = text.split_once(':').ok_or(Unread::NoCase)?;
+    Ok((read_head(front)?, read_sections(heap, rest)?))
+}
+
 // A line that begins `check KIND DEPTH PLACE` or `find KIND DEPTH PLACE ROOM`.
 pub(crate) fn run_opened(
     rt: &HostRuntime,
@@ -165,18 +146,13 @@ pub(crate) fn run_opened(
     number: usize,
     text: &str,
 ) -> io::Result<()> {
-    let Some((front, rest)) = text.split_once(':') else {
-        return println!(rt; "cannot read line {number}");
-    };
-    let Some(head) = read_head(front) else {
-        return println!(rt; "cannot read line {number}");
-    };
-    let Some(sections) = read_sections(rt.alloc(), rest)? else {
-        return println!(rt; "cannot read line {number}");
+    let (head, sections) = match read_opened(rt.alloc(), text) {
+        Ok(read) => read,
+        Err(why) => return show_unread(rt, number, why),
     };
     match head.kind {
-        Named::Drill => run_any(rt, &Drill, head, &sections),
-        Named::Rpo128 => run_any(rt, &kinds.rpo128, head, &sections),
-        Named::Rpo160 => run_any(rt, &kinds.rpo160, head, &sections),
+        KindName::Drill => run_any(rt, &Drill, head, &sections),
+        KindName::Rpo128 => run_any(rt, &kinds.rpo128, head, &sections),
+        KindName::Rpo160 => run_any(rt, &kinds.rpo160, head, &sections),
     }
 }

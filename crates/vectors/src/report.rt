@@ -1,3 +1,4 @@
+use crate::cases::Unread;
 use kinds::denial::Denial;
 use std::io;
 
@@ -30,5 +31,13 @@ pub(crate) fn report(
     match answer {
         Ok(()) => show_words(rt, after),
         Err(why) => show_denial(rt, why, before == after),
+    }
+}
+
+// A line that gives no case.
+pub(crate) fn show_unread(rt: &impl Print, number: usize, why: Unread) -> io::Result<()> {
+    match why {
+        Unread::NoCase => println!(rt; "cannot read line {number}"),
+        Unread::NoMemory(e) => Err(e.into()),
     }
 }
