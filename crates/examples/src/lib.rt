@@ -5,5 +5,4 @@ ghost use Rattle.examples.specs.Table.{WorkedExamples};
 
 pub fn examples_stand()
     ensures { WorkedExamples }
-{
-}
+{}

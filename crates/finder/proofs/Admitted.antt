@@ -1,5 +1,5 @@
 -- What two openings that are admitted have, and the causes of a refusal in a row.
-use Rattle.std.proofs.Common.{◌≡◌, ℕ, ◌*◌, false, List, [], ◌∷◌, ◌++◌, length, Option, ap, ◌∙◌, arith}
+use Rattle.std.proofs.Common.{◌≡◌, ℕ, ◌*◌, false, List, [], ◌∷◌, ◌++◌, length, Option, ap, arith}
 use Rattle.std.proofs.lemmas.Bool.{ltb-false, le-ltb}
 use Rattle.field.specs.Field.{Elements}
 use Rattle.kinds.specs.Answers.{Answer, granted, denied, Cause, answer}
@@ -54,19 +54,13 @@ good_elements xs e =
     let all = first_is xs (length xs) (omega arith) e (λ h. absurd (omega arith)) in
     le-ltb (first_bad xs) (length xs) (omega arith)
 
--- from what is handed over to the whole call; wi is the digest size as the code has it
-module _ (c w : ℕ) (F : List ℕ → List ℕ) (root : List ℕ) (depth place : ℕ) (claim1 : Option (List ℕ)) (path1 : List ℕ) (claim2 : Option (List ℕ)) (path2 out : List ℕ) (wi : ℕ) (ew : wi ≡ w) where
-  pub call_denied : (n : ℕ) (vs : List ℕ) → denied n vs ≡ answer (handed_causes wi root depth place claim1 path1 claim2 path2 out) →
-      ◌≡◌ {A = Answer × Shown × List ℕ} (denied n vs, nothing, out) (find_call c w F root depth place claim1 path1 claim2 path2 out)
-  call_denied n vs e =
-      let here = e ∙ ap (λ (k : ℕ). answer (handed_causes k root depth place claim1 path1 claim2 path2 out)) ew in
-      ap (λ (a : Answer). unless_denied a out (found c w F depth place claim1 path1 claim2 path2 out))
-      (answer_front (handed_causes w root depth place claim1 path1 claim2 path2 out) (verdict c w F root depth place claim1 path1 claim2 path2) n vs here)
-
-  -- the refusals of numbers and lengths, which come first
+-- the refusals of numbers and lengths come first
+module _ (c w : ℕ) (F : List ℕ → List ℕ) (root : List ℕ) (depth place : ℕ) (claim1 : Option (List ℕ)) (path1 : List ℕ) (claim2 : Option (List ℕ)) (path2 out : List ℕ) where
   abbrev lengths : List Cause
-  lengths = too_deep depth ∷ no_place depth place ∷ bad_claim claim1 ∷ bad_claim claim2 ∷ bad_buffer wi root ∷ bad_buffer (depth * wi) path1 ∷ bad_buffer (depth * wi) path2 ∷ []
+  lengths = too_deep depth ∷ no_place depth place ∷ bad_claim claim1 ∷ bad_claim claim2 ∷ bad_buffer w root ∷ bad_buffer (depth * w) path1 ∷ bad_buffer (depth * w) path2 ∷ []
 
   pub lengths_denied : (n : ℕ) (vs : List ℕ) → denied n vs ≡ answer lengths → ◌≡◌ {A = Answer × Shown × List ℕ} (denied n vs, nothing, out) (find_call c w F root depth place claim1 path1 claim2 path2 out)
   lengths_denied n vs e =
-      call_denied n vs (answer_front lengths (bad_buffer (4 * wi) out ∷ not_elements (root ++ (words_of claim1 ++ (path1 ++ (words_of claim2 ++ path2)))) ∷ []) n vs e)
+      let words = not_elements (root ++ (words_of claim1 ++ (path1 ++ (words_of claim2 ++ path2)))) in
+      ap (λ (a : Answer). unless_denied a out (found c w F depth place claim1 path1 claim2 path2 out))
+      (answer_front lengths (bad_buffer (4 * w) out ∷ words ∷ verdict c w F root depth place claim1 path1 claim2 path2) n vs e)

@@ -69,9 +69,8 @@ pub fn find_clash<K: Kind>(
         depth: depth as usize,
         place: place as usize,
     };
-    let w = K::DIGEST;
-    site.admit(w, &[first, second])?;
-    if out.len() != 4 * w {
+    site.admit::<K>(&[first, second])?;
+    if out.len() != 4 * K::DIGEST {
         return Err(Denial::BadBuffer);
     }
     let one = words_of(first.claim);

@@ -28,7 +28,7 @@ pub fn check<'a, K: Kind>(
         place: place as usize,
     };
     let opening = Opening { claim, path };
-    site.admit(K::DIGEST, &[opening])?;
+    site.admit::<K>(&[opening])?;
     admit_words(&[root, words_of(claim), path])?;
     let n = site.depth * K::rate();
     let mut pairs = [0u64; 128];

@@ -11,6 +11,7 @@ ghost use Rattle.openings.specs.Sites.{shape_causes, claim_of};
 use crate::opening::Opening;
 use crate::words::is_bad_claim;
 use kinds::denial::Denial;
+use kinds::kind::Kind;
 
 // The deepest tree.
 pub const DEEPEST: usize = 8;
@@ -39,7 +40,7 @@ fn any_bad_path(openings: &[Opening<'_>], long: usize) -> bool
 
 impl<'a> Site<'a> {
     // Whether the digest at a level is the right one of its pair.
-    pub fn is_on_right(self, level: usize) -> bool
+    pub(crate) fn is_on_right(self, level: usize) -> bool
         requires { level < 64 }
         ensures { result ≡ is_right self.entry.place level }
     {
@@ -47,9 +48,8 @@ impl<'a> Site<'a> {
     }
 
     // The refusals of numbers and lengths, in their order.
-    pub fn admit(self, w: usize, openings: &[Opening<'_>]) -> Result<(), Denial>
-        requires { w ≤ 16 }
-        ensures { told result ≡ answer (shape_causes w self.entry.root.now self.entry.depth self.entry.place openings.now) }
+    pub fn admit<K: Kind>(self, openings: &[Opening<'_>]) -> Result<(), Denial>
+        ensures { told result ≡ answer (shape_causes K.DIGEST self.entry.root.now self.entry.depth self.entry.place openings.now) }
     {
         if self.depth > DEEPEST {
             return Err(Denial::DepthTooLarge);
@@ -60,8 +60,8 @@ impl<'a> Site<'a> {
         if any_bad_claim(openings) {
             return Err(Denial::BadLength);
         }
-        let long = self.depth * w;
-        if self.root.len() != w || any_bad_path(openings, long) {
+        let long = self.depth * K::DIGEST;
+        if self.root.len() != K::DIGEST || any_bad_path(openings, long) {
             return Err(Denial::BadBuffer);
         }
         Ok(())

@@ -8,5 +8,4 @@ use kinds::kind::Kind;
 // For every kind, from its law alone.
 pub fn promises<K: Kind>()
     ensures { Promises K.CAPACITY K.DIGEST K.mapping }
-{
-}
+{}
