@@ -1,5 +1,5 @@
 -- A path that is copied level by level, and what the calls of a closed lot leave where they are granted.
-use Rattle.std.proofs.Common.{◌≡◌, ℕ, zero, suc, ◌+◌, ◌-◌, ◌*◌, ◌/◌, ◌^◌, ◌<◌, ◌≤◌, List, [], ◌++◌, length, get_or, take, sym, refl, ap, ◌∙◌, ap₂, suc-mul, pow-suc, zero-mul, arith, pow_pos}
+use Rattle.std.proofs.Common.{◌≡◌, ℕ, zero, suc, ◌+◌, ◌-◌, ◌*◌, ◌/◌, ◌^◌, ◌<◌, ◌≤◌, List, [], ◌++◌, length, get_or, take, sym, refl, ap, ◌∙◌, ap₂, suc-mul, add-mul, one-mul, add-one, pow-suc, zero-mul, arith, pow_pos}
 use borrow.Rule.Slice.PartMut.{put_mid}
 use Rattle.std.proofs.lemmas.Bool.{eq-eqb, lt-leb}
 use Rattle.std.proofs.lemmas.Slice.{take-put_mid}
@@ -7,8 +7,12 @@ use Rattle.std.proofs.lemmas.List.{append_assoc, append-nil, take_all}
 use Rattle.kinds.specs.Answers.{Answer, granted}
 use Rattle.model.specs.Trees.{sibling}
 use Rattle.model.specs.Closed.{siblings_from, open_call}
-use Rattle.model.proofs.Heaps.{node_is, sibling_low, sibling_some}
+use Rattle.model.proofs.Heaps.{node_is, sibling_low, sibling_some, half_again}
 use Rattle.lots.specs.Nodes.{node_in, nodes_in, closed_in, path_in}
+
+-- the words of the levels before level j, and those from there on
+pub parts : (w levels j : ℕ) → j ≤ levels → j * w + (levels - j) * w ≡ levels * w
+parts w levels j h = sym (add-mul j (levels - j) w) ∙ ap (λ (n : ℕ). n * w) (let e : j + (levels - j) ≡ levels = omega arith in e)
 
 pub room : (at w levels j : ℕ) → at + (levels - j) * w ≡ levels * w → j < levels → (at + w ≤ levels * w) × (at + w + (levels - (j + 1)) * w ≡ levels * w)
 room at w levels j e h =
@@ -35,6 +39,20 @@ path_more w ws levels j node n at k out new other h lo ea ep eo en ln =
     let two : path_in w ws (levels - j) n ≡ node_in w ws (sibling n) ++ path_in w ws m (n / 2) = ap (λ (t : ℕ). path_in w ws t n) em in
     let three : new ≡ node_in w ws (sibling n) = en ∙ ap (node_in w ws) eo in
     ap (λ (t : List ℕ). t ++ path_in w ws m (n / 2)) one ∙ append_assoc (take at out) new (path_in w ws m (n / 2)) ∙ ap (λ (t : List ℕ). take at out ++ (t ++ path_in w ws m (n / 2))) three ∙ ap (λ (t : List ℕ). take at out ++ t) (sym two) ∙ ep
+
+-- one level more, where level j has node n / 2 ^ j and its words stand from j * w on
+pub path_step : (w : ℕ) (ws : List ℕ) (levels j node k : ℕ) (out new : List ℕ) (other : ℕ) → j < levels → length out ≡ levels * w
+    → (2 ^ (levels - j) ≤ node / 2 ^ j) × (node / 2 ^ j < 512) × (take (j * w) out ++ path_in w ws (levels - j) (node / 2 ^ j) ≡ path_in w ws levels node)
+    → other ≡ sibling (node / 2 ^ j) → new ≡ node_in w ws other → length new ≡ w
+    → (2 ^ (levels - (j + 1)) ≤ node / 2 ^ (j + 1)) × (node / 2 ^ (j + 1) < 512) × (take ((j + 1) * w) (put_mid (j * w) k out new) ++ path_in w ws (levels - (j + 1)) (node / 2 ^ (j + 1)) ≡ path_in w ws levels node)
+path_step w ws levels j node k out new other h lo inv eo en ln =
+    let n : ℕ = node / 2 ^ j in
+    let again : n / 2 ≡ node / 2 ^ (j + 1) = rw add-one (half_again node j) in
+    let more : j * w + w ≡ (j + 1) * w = rw (add-mul, one-mul) in
+    let low = halves levels j n inv.0 h in
+    let high : n / 2 < 512 = let u = inv.1 in omega arith in
+    let whole = path_more w ws levels j node n (j * w) k out new other h lo (parts w levels j (omega arith)) inv.2 eo en ln in
+    (rw (← again) low, rw (← again) high, rw (← again, ← more) whole)
 
 pub path_all : (w : ℕ) (ws : List ℕ) (levels j node n at : ℕ) (out : List ℕ) → levels ≤ j → length out ≡ levels * w → at + (levels - j) * w ≡ levels * w → take at out ++ path_in w ws (levels - j) n ≡ path_in w ws levels node → out ≡ path_in w ws levels node
 path_all w ws levels j node n at out h lo ea ep =

@@ -20,13 +20,10 @@ impl Table {
         requires long { length out.old ≡ levels * w }
         ensures { out.new ≡ path_in w self.now.words.items levels node }
     {
-        let mut i = node;
-        let mut at = 0;
-        for _j in 0..levels {
-            let other = beside(i);
+        for level in 0..levels {
+            let at = level * w;
+            let other = beside(node >> level);
             self.read(other, &mut out[at..at + w]);
-            i /= 2;
-            at += w;
         }
     }
 }
