@@ -3,50 +3,51 @@ ghost use Rattle.lines.specs.Lines.{spaced};
 
 use std::marker::Model;
 
-// A line of at most 1,024 bytes, in memory of its own. Clauses see its bytes.
+// A line of at most `N` bytes, in memory of its own. Clauses see its bytes.
 #[derive(Drop)]
-pub struct Line {
-    bytes: [u8; 1024],
+pub struct Line<const N: usize> {
+    bytes: [u8; N],
     len: usize,
 }
 
-impl Model for Line {
+impl<const N: usize> Model for Line<N> {
     ghost Value = { List ℕ };
 
     ghost view = { λ line. take line.len line.bytes };
 
-    ghost invariant = { λ line. line.len ≤ 1024 };
+    ghost invariant = { λ line. line.len ≤ N };
 }
 
-impl Line {
-    pub fn new() -> Line
+impl<const N: usize> Line<N> {
+    pub fn new() -> Self
         ensures { result ≡ [] }
     {
         Line {
-            bytes: [0; 1024],
+            bytes: [0; N],
             len: 0,
         }
     }
 
     pub fn as_bytes(&self) -> &[u8]
         ensures is { result.now ≡ self.now }
-        ensures short { length result.now ≤ 1024 }
+        ensures short { length result.now ≤ N }
     {
         &self.bytes[..self.len]
     }
 
     pub fn push_text(&mut self, text: &[u8])
-        requires { length self.old + length text.now ≤ 1024 }
+        requires { length self.old + length text.now ≤ N }
         ensures { self.new ≡ self.old ++ text.now }
     {
         let end = self.len + text.len();
-        self.bytes[self.len..end].copy_from_slice(text);
+        let bytes = &mut self.bytes[..];
+        bytes[self.len..end].copy_from_slice(text);
         self.len = end;
     }
 
     // The number in decimal. Room for 20 digits is asked whatever the number is, so that callers can count.
     pub fn push_number(&mut self, n: u64)
-        requires { length self.old + 20 ≤ 1024 }
+        requires { length self.old + 20 ≤ N }
         ensures written { self.new ≡ self.old ++ decimal n }
         ensures short { length self.new ≤ length self.old + 20 }
     {
@@ -58,7 +59,7 @@ impl Line {
 
     // A space and the number.
     pub fn push_spaced_number(&mut self, n: u64)
-        requires { length self.old + 21 ≤ 1024 }
+        requires { length self.old + 21 ≤ N }
         ensures written { self.new ≡ self.old ++ spaced (decimal n) }
         ensures short { length self.new ≤ length self.old + 21 }
     {

@@ -11,7 +11,8 @@ pub enum Heading {
     Path,
 }
 
-pub fn ok_line() -> Line
+pub fn ok_line<const N: usize>() -> Line<N>
+    requires { 3 ≤ N }
     ensures { result ≡ ok_line }
 {
     let mut line = Line::new();
@@ -20,8 +21,8 @@ pub fn ok_line() -> Line
 }
 
 // A word and numbers.
-pub fn numbers_line(word: &[u8], numbers: &[u64]) -> Line
-    requires { length word.now + 21 * length numbers.now + 1 ≤ 1024 }
+pub fn numbers_line<const N: usize>(word: &[u8], numbers: &[u64]) -> Line<N>
+    requires { length word.now + 21 * length numbers.now + 1 ≤ N }
     ensures { result ≡ numbers_line word.now numbers.now }
 {
     let mut line = Line::new();
@@ -45,8 +46,8 @@ impl Heading {
     }
 
     // The line of the numbers.
-    pub fn line(self, numbers: &[u64]) -> Line
-        requires { 21 * length numbers.now + 5 ≤ 1024 }
+    pub fn line<const N: usize>(self, numbers: &[u64]) -> Line<N>
+        requires { 21 * length numbers.now + 5 ≤ N }
         ensures { result ≡ numbers_line (heading_word self) numbers.now }
     {
         numbers_line(self.word(), numbers)
@@ -54,7 +55,8 @@ impl Heading {
 }
 
 // A refusal: its number, its layer, and the offset of the command.
-pub fn no_line(number: u8, layer: Layer, offset: usize) -> Line
+pub fn no_line<const N: usize>(number: u8, layer: Layer, offset: usize) -> Line<N>
+    requires { 53 ≤ N }
     ensures { result ≡ no_line number layer offset }
 {
     let mut refusal = Line::new();

@@ -3,12 +3,12 @@ ghost use Rattle.script.specs.Stages.{any_filled, any_closed, any_asked};
 ghost use Rattle.script.specs.Shown.{shown_lot, shown_closed};
 
 use kinds::drill::Drill;
-use lines::line::Line;
 use lots::closed::ClosedLot;
 use lots::lot::Lot;
 use reader::orders::Order;
 use rpo_kinds::rpo128::Rpo128;
 use rpo_kinds::rpo160::Rpo160;
+use turns::answers::ScriptLine;
 use turns::asking::ask;
 use turns::filling::fill;
 
@@ -31,7 +31,7 @@ pub enum AnyClosed {
 impl AnyLot {
     // Runs a command that is in its phase, and gives its line.
     #[tactic(auto, unfolding(crate::specs::Shown::shown_lot))]
-    pub(crate) fn fill(&mut self, order: Order, at: usize) -> Line
+    pub(crate) fn fill(&mut self, order: Order, at: usize) -> ScriptLine
         ensures after { shown_lot self.new ≡ (any_filled (shown_lot self.old) order at).0 }
         ensures line { result ≡ (any_filled (shown_lot self.old) order at).1 }
     {
@@ -57,7 +57,7 @@ impl AnyLot {
 impl AnyClosed {
     // Runs a command that is in its phase, and gives its line.
     #[tactic(auto, unfolding(crate::specs::Shown::shown_closed))]
-    pub(crate) fn ask(&self, order: Order, at: usize) -> Line
+    pub(crate) fn ask(&self, order: Order, at: usize) -> ScriptLine
         ensures { result ≡ any_asked (shown_closed self.now) order at }
     {
         match self {

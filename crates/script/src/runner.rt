@@ -6,13 +6,12 @@ ghost use Rattle.script.specs.Shown.{shown};
 use crate::stage::Stage;
 use crate::waiting::Waiting;
 use kinds::denial::Denial;
-use lines::line::Line;
 use reader::commands::Command;
 use reader::fault::ScriptFault;
 use reader::orders::Order;
 use reader::reading::read_at;
 use std::alloc::{AllocError, Global};
-use turns::answers::fault_line;
+use turns::answers::{ScriptLine, fault_line};
 
 // A script that is being run: the place of the next command, and the lot so far.
 #[derive(Drop)]
@@ -53,7 +52,7 @@ impl<'a> Runner<'a> {
 
     // The line of a command, or of a fault of the script, which ends the reading.
     #[tactic(auto, unfolding(crate::specs::Runs::turn))]
-    fn turn(&mut self, next: Result<(Command<'_>, usize), ScriptFault>) -> Line
+    fn turn(&mut self, next: Result<(Command<'_>, usize), ScriptFault>) -> ScriptLine
         ensures after { shown self.new ≡ (turn (shown self.old) (told next.entry)).0 }
         ensures line { result ≡ (turn (shown self.old) (told next.entry)).1 }
     {

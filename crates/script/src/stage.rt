@@ -4,13 +4,12 @@ ghost use Rattle.script.specs.Shown.{shown_stage};
 
 use crate::any::{AnyClosed, AnyLot};
 use crate::waiting::Waiting;
-use lines::line::Line;
 use lines::writing::ok_line;
 use reader::fault::ScriptFault;
 use reader::orders::Order;
 use reader::phases::Phase;
 use std::mem;
-use turns::answers::fault_line;
+use turns::answers::{ScriptLine, fault_line};
 
 // How far the reading has come, with the lot that it has then.
 #[derive(Drop)]
@@ -34,7 +33,7 @@ impl Stage {
         }
     }
 
-    fn start(&mut self, kind: u8, depth: u8, at: usize) -> Line
+    fn start(&mut self, kind: u8, depth: u8, at: usize) -> ScriptLine
         ensures after { shown_stage self.new ≡ (start_in (shown_stage self.old) kind depth at).0 }
         ensures line { result ≡ (start_in (shown_stage self.old) kind depth at).1 }
     {
@@ -50,7 +49,7 @@ impl Stage {
         }
     }
 
-    fn close(&mut self, at: usize) -> Line
+    fn close(&mut self, at: usize) -> ScriptLine
         ensures after { shown_stage self.new ≡ (close_in (shown_stage self.old) at).0 }
         ensures line { result ≡ (close_in (shown_stage self.old) at).1 }
     {
@@ -62,7 +61,7 @@ impl Stage {
     }
 
     // A command that leaves the phase as it is.
-    fn run(&mut self, order: Order, at: usize) -> Line
+    fn run(&mut self, order: Order, at: usize) -> ScriptLine
         ensures after { shown_stage self.new ≡ (run_in (shown_stage self.old) order at).0 }
         ensures line { result ≡ (run_in (shown_stage self.old) order at).1 }
     {
@@ -75,7 +74,7 @@ impl Stage {
 
     // Runs a command that is in its phase, and gives its line.
     #[tactic(auto, unfolding(crate::specs::Stages::act))]
-    pub(crate) fn act(&mut self, order: Order, at: usize) -> Line
+    pub(crate) fn act(&mut self, order: Order, at: usize) -> ScriptLine
         ensures after { shown_stage self.new ≡ (act (shown_stage self.old) order at).0 }
         ensures line { result ≡ (act (shown_stage self.old) order at).1 }
     {

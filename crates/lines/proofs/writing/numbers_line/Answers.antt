@@ -5,6 +5,6 @@ use Rattle.lines.proofs.writing.numbers_line.Goals as goal
 
 pub returns : goal.returns
 unfolding line
-returns c =
+returns g c =
     let all = take_all c.loop-n.n-index c.args.numbers.now (omega arith) in
     rw (c.push_text-2.ensures, c.loop-n.invariant.0, all)

@@ -4,4 +4,4 @@ use Rattle.lines.proofs.writing.ok_line.Goals as goal
 
 pub returns : goal.returns
 unfolding line
-returns c = search rules
+returns g c = search rules

@@ -4,7 +4,7 @@ use Rattle.lines.proofs.line.Line.+push_number.Goals as goal
 use Rattle.lines.proofs.line.Line.+push_number.Goals.{then-n-ge10, else-n-ge10}
 
 pub push_text-requires : goal.push_text-requires
-push_text-requires t c =
+push_text-requires g t c =
     let front : Front c.args.self.now c.if-n-ge10.self c.args.n =
     elim c.if-n-ge10.branch [
       | then-n-ge10 w ↦ inl (w.if-n-ge10.true, w.self-is ∙ w.push_number.ensures.written)
@@ -15,7 +15,7 @@ push_text-requires t c =
     omega arith
 
 pub returns : goal.returns
-returns t c =
+returns g t c =
     let front : Front c.args.self.now c.if-n-ge10.self c.args.n =
     elim c.if-n-ge10.branch [
       | then-n-ge10 w ↦ inl (w.if-n-ge10.true, w.self-is ∙ w.push_number.ensures.written)

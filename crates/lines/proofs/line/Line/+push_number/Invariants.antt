@@ -1,4 +1,4 @@
 use Rattle.lines.proofs.line.Line.+push_number.Given as goal
 
 abbrev pub decreases-push_number : goal.decreases-push_number
-decreases-push_number l = l.n
+decreases-push_number g l = l.n
