@@ -1,5 +1,5 @@
 -- A chain of pairs, turn by turn.
-use Rattle.std.proofs.Common.{◌≡◌, ℕ, zero, suc, ◌+◌, ◌<◌, true, false, not, List, [], ◌∷◌, ◌++◌, length, eqb, refl, sym, ap, ◌∙◌, ⊎_elim, arith}
+use Rattle.std.proofs.Common.{◌≡◌, ℕ, zero, suc, ◌+◌, ◌<◌, true, false, List, [], ◌∷◌, ◌++◌, length, eqb, refl, sym, ap, ◌∙◌, ⊎_elim, arith}
 use Rattle.std.proofs.lemmas.Bool.{cases_Bool, ltb-false, le-ltb, eq-eqb, ne_eqb, eqb-true, not-false}
 use Rattle.std.proofs.lemmas.List.{length-append, get_or_append_left, get_or-append-add}
 use Rattle.field.specs.Field.{Elements}
@@ -94,10 +94,6 @@ module _ {number c w : ℕ} {F : List ℕ → List ℕ} (sound : Sound number c 
 
     some : (n : ℕ) → eqb (suc n) 0 ≡ false
     some n = ne_eqb (suc n) 0 (λ e. omega arith)
-
-    pub done : (n : ℕ) (a out : List ℕ) → Before c w F b start room n a out → ◌≡◌ {A = Answer × (List ℕ × List ℕ)} (granted, (a, out)) (chain_call c w F n start b room)
-    done zero a out h = rw (h.0, h.1, lengths) refl
-    done (suc n) a out h = rw (h.2, h.1, lengths, some n, h.0) refl
 
     halt : (i n : ℕ) (a out : List ℕ) (k : ℕ) (vs : List ℕ) → i < n → Before c w F b start room i a out → denied k vs ≡ pair_answer w a b out
         → ◌≡◌ {A = Answer × (List ℕ × List ℕ)} (denied k vs, (a, out)) (chain_call c w F n start b room)

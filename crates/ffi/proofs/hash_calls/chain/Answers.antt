@@ -1,6 +1,6 @@
 use Rattle.std.proofs.Common.{◌≡◌, ap, length, arith, rules}
 use Rattle.kinds.specs.Denials.{number_of, values_of}
-use Rattle.ffi.proofs.Pairs.{next, done, stopped}
+use Rattle.ffi.proofs.Pairs.{next, stopped}
 use Rattle.ffi.proofs.hash_calls.chain.Goals as goal
 
 pub loop-i-preserved : goal.loop-i-preserved
