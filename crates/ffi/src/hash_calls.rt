@@ -31,7 +31,7 @@ fn chain<K: Kind>(kind: &K, n: u64, a: &mut [u64], b: &[u64], out: &mut [u64]) -
     if a.len() != out.len() {
         return Err(Denial::BadBuffer);
     }
-    for i in 0..n {
+    for _ in 0..n {
         two_to_one(kind, a, b, out)?;
         a.copy_from_slice(out);
     }
