@@ -1,20 +1,114 @@
--- A chain of pairs, one turn more.
-use mathlib.Core.Path.{◌≡◌, refl, ap, ◌∙◌}
-use mathlib.Core.List.{List}
-use Prim.Native.Nat.{ℕ, suc, ◌+◌}
-use native.Mathlib.Omega.{arith}
-use Rattle.kinds.specs.Answers.{Answer, granted, if_granted}
+-- A chain of pairs, turn by turn.
+use Rattle.std.proofs.Common.{◌≡◌, ℕ, zero, suc, ◌+◌, ◌<◌, true, false, List, [], ◌∷◌, ◌++◌, length, eqb, refl, sym, ap, ◌∙◌, ⊎_elim, arith}
+use Rattle.std.proofs.lemmas.Bool.{cases_Bool, ltb-false, le-ltb, eq-eqb, ne_eqb, eqb-true, not-false}
+use Rattle.std.proofs.lemmas.List.{length-append, get_or_append_left, get_or-append-add}
+use Rattle.field.specs.Field.{Elements}
+use Rattle.kinds.specs.Answers.{Answer, granted, denied, Cause, answer, if_granted}
+use Rattle.kinds.specs.Kinds.{State, Sound}
+use Rattle.kinds.specs.Words.{first_bad, not_elements}
+use Rattle.kinds.specs.Permuting.{bad_buffer}
+use Rattle.kinds.proofs.FirstBad.{first_is, all_from}
 use Rattle.sponge.specs.Digests.{two_to_one}
 use Rattle.sponge.specs.Calls.{pair_answer, pair_call}
-use Rattle.ffi.specs.Chains.{chained}
+use Rattle.sponge.proofs.Parts.{each_append}
+use Rattle.sponge.proofs.Pairs.{pair_state}
+use Rattle.ffi.specs.Chains.{chained, chain_call}
+
+-- a granted call, and that its first cause is not there
+past : (x : Cause) (xs : List Cause) → answer (x ∷ xs) ≡ granted → (x.0 ≡ false) × (answer xs ≡ granted)
+past x xs e =
+    ⊎_elim
+    (λ b. let never : denied x.1 x.2 ≡ granted = rw b at e in cc)
+    (λ b. (b, rw b at e))
+    (cases_Bool x.0)
+
+long_enough : (n : ℕ) (s : List ℕ) → (bad_buffer n s).0 ≡ false → length s ≡ n
+long_enough n s e = eqb-true (length s) n (not-false (eqb (length s) n) e)
+
+each_left : (xs ys : List ℕ) → Elements (xs ++ ys) → Elements xs
+each_left xs ys e k h = let n = length-append xs ys in rw (get_or_append_left xs ys 0 k h) at (e k (omega arith))
+
+each_right : (xs ys : List ℕ) → Elements (xs ++ ys) → Elements ys
+each_right xs ys e k h = let n = length-append xs ys in rw (get_or-append-add xs ys k 0) at (e (length xs + k) (omega arith))
+
+all_pass : (xs : List ℕ) → Elements xs → (not_elements xs).0 ≡ false
+all_pass xs each =
+    let e = first_is xs (length xs) (omega arith) each (λ never. absurd (omega arith)) in
+    le-ltb (first_bad xs) (length xs) (omega arith)
+
+module _ (w : ℕ) (a b out : List ℕ) where
+  -- a pair that is granted is one of digests
+  pair_fits : pair_answer w a b out ≡ granted → (State w a) × (State w b)
+  pair_fits e =
+      let s1 = past (bad_buffer w a) (bad_buffer w b ∷ bad_buffer w out ∷ not_elements (a ++ b) ∷ []) e in
+      let s2 = past (bad_buffer w b) (bad_buffer w out ∷ not_elements (a ++ b) ∷ []) s1.1 in
+      let s3 = past (bad_buffer w out) (not_elements (a ++ b) ∷ []) s2.1 in
+      let s4 = past (not_elements (a ++ b)) [] s3.1 in
+      let each = all_from (a ++ b) (ltb-false (first_bad (a ++ b)) (length (a ++ b)) s4.0) in
+      (record { long = long_enough w a s1.0; each = each_left a b each }, record { long = long_enough w b s2.0; each = each_right a b each })
+
+  -- and digests with room for one are granted
+  pair_granted : State w a → State w b → length out ≡ w → pair_answer w a b out ≡ granted
+  pair_granted sa sb so =
+      rw (eq-eqb (length a) w sa.long, eq-eqb (length b) w sb.long, eq-eqb (length out) w so, all_pass (a ++ b) (each_append a b sa.each sb.each))
+
+-- before the turn i of a chain over start, b and room: what a and out hold
+module _ (c w : ℕ) (F : List ℕ → List ℕ) (b start room : List ℕ) where
+  abbrev pub Before : ℕ → List ℕ → List ℕ → Type 0
+  Before zero a out = (a ≡ start) × (out ≡ room)
+  Before (suc i) a out = (pair_answer w start b room ≡ granted) × (a ≡ chained c w F b (suc i) start) × (out ≡ a)
 
 granted_first : (A : Answer) (x y : List ℕ) → granted ≡ A → if_granted A x y ≡ x
 granted_first A x y h = rw (← h) refl
 
-module _ (c w : ℕ) (F : List ℕ → List ℕ) (b : List ℕ) where
-  pub granted_pair : (a out new : List ℕ) → (granted, new) ≡ pair_call c w F a b out → new ≡ two_to_one c w F a b
-  granted_pair a out new e =
-      ap (λ (x : Answer × List ℕ). x.1) e ∙ granted_first (pair_answer w a b out) (two_to_one c w F a b) out (ap (λ (x : Answer × List ℕ). x.0) e)
+denied_second : (A : Answer) (n : ℕ) (vs x y : List ℕ) → denied n vs ≡ A → if_granted A x y ≡ y
+denied_second A n vs x y h = rw (← h) refl
 
-  pub turn : (i : ℕ) (start a new : List ℕ) → a ≡ chained c w F b i start → new ≡ two_to_one c w F a b → new ≡ chained c w F b (i + 1) start
-  turn i start a new h e = let next : i + 1 ≡ suc i = omega arith in rw next (e ∙ ap (λ x. two_to_one c w F x b) h)
+module _ {number c w : ℕ} {F : List ℕ → List ℕ} (sound : Sound number c w F) (b start room : List ℕ) where
+  -- after one hash or more what stands there is a digest, so that the next pair is granted
+  chained_state : (i : ℕ) → State w start → State w b → State w (chained c w F b i start)
+  chained_state zero s sb = s
+  chained_state (suc i) s sb = pair_state sound (chained c w F b i start) b (chained_state i s sb) sb
+
+  again : (i : ℕ) → pair_answer w start b room ≡ granted → pair_answer w (chained c w F b i start) b (chained c w F b i start) ≡ granted
+  again i e =
+      let s = pair_fits w start b room e in
+      let t = chained_state i s.0 s.1 in
+      pair_granted w (chained c w F b i start) b (chained c w F b i start) t s.1 t.long
+
+  turn : (i : ℕ) (a out new : List ℕ) → Before c w F b start room i a out → granted ≡ pair_answer w a b out → new ≡ two_to_one c w F a b → Before c w F b start room (suc i) new new
+  turn zero a out new h e f =
+      (sym (rw (h.0, h.1) at e), f ∙ ap (λ x. two_to_one c w F x b) h.0, refl)
+  turn (suc i) a out new h e f = (h.0, f ∙ ap (λ x. two_to_one c w F x b) h.1, refl)
+
+  pub next : (i : ℕ) (a out new copy : List ℕ) → Before c w F b start room i a out → (granted, new) ≡ pair_call c w F a b out → copy ≡ new → Before c w F b start room (i + 1) copy new
+  next i a out new copy h e q =
+      let e0 : granted ≡ pair_answer w a b out = ap (λ (x : Answer × List ℕ). x.0) e in
+      let e1 : new ≡ two_to_one c w F a b = ap (λ (x : Answer × List ℕ). x.1) e ∙ granted_first (pair_answer w a b out) (two_to_one c w F a b) out e0 in
+      let n : i + 1 ≡ suc i = omega arith in
+      rw (n, q) (turn i a out new h e0 e1)
+
+  module _ (same : length start ≡ length room) where
+    lengths : eqb (length start) (length room) ≡ true
+    lengths = eq-eqb (length start) (length room) same
+
+    some : (n : ℕ) → eqb (suc n) 0 ≡ false
+    some n = ne_eqb (suc n) 0 (λ e. omega arith)
+
+    halt : (i n : ℕ) (a out : List ℕ) (k : ℕ) (vs : List ℕ) → i < n → Before c w F b start room i a out → denied k vs ≡ pair_answer w a b out
+        → ◌≡◌ {A = Answer × (List ℕ × List ℕ)} (denied k vs, (a, out)) (chain_call c w F n start b room)
+    halt i zero a out k vs l h e = absurd (omega arith)
+    halt zero (suc n) a out k vs l h e =
+        let first : pair_answer w start b room ≡ denied k vs = sym (rw (h.0, h.1) at e) in
+        rw (h.0, h.1, lengths, some n, first) refl
+    halt (suc i) (suc n) a out k vs l h e =
+        let more : pair_answer w a b out ≡ granted = rw (h.2, h.1) (again (suc i) h.0) in
+        let never : denied k vs ≡ granted = e ∙ more in
+        cc
+
+    pub stopped : (i n : ℕ) (a out new : List ℕ) (k : ℕ) (vs : List ℕ) → i < n → Before c w F b start room i a out → (denied k vs, new) ≡ pair_call c w F a b out
+        → ◌≡◌ {A = Answer × (List ℕ × List ℕ)} (denied k vs, (a, new)) (chain_call c w F n start b room)
+    stopped i n a out new k vs l h e =
+        let e0 : denied k vs ≡ pair_answer w a b out = ap (λ (x : Answer × List ℕ). x.0) e in
+        let e1 : new ≡ out = ap (λ (x : Answer × List ℕ). x.1) e ∙ denied_second (pair_answer w a b out) k vs (two_to_one c w F a b) out e0 in
+        rw e1 (halt i n a out k vs l h e0)

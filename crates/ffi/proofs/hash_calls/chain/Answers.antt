@@ -1,12 +1,19 @@
-use mathlib.Core.Path.{◌≡◌, ap, ◌∙◌}
-use lib.ListN.{length}
-use Rattle.ffi.proofs.Pairs.{granted_pair, turn}
+use Rattle.std.proofs.Common.{◌≡◌, ap, length, arith, rules}
+use Rattle.kinds.specs.Denials.{number_of, values_of}
+use Rattle.ffi.proofs.Pairs.{next, stopped}
 use Rattle.ffi.proofs.hash_calls.chain.Goals as goal
 
-pub loop-i-preserved : goal.loop-i-preserved
-loop-i-preserved g c =
-    let k = g.K.Kind in
-    let b = c.args.b.now in
-    let hashed = granted_pair k.CAPACITY k.DIGEST k.mapping b c.loop-i.a c.loop-i.out c.two_to_one.new.out c.in_default.ensures in
+pub loop-preserved : goal.loop-preserved
+loop-preserved g c =
     let copied : c.copy_from_slice.new.self ≡ c.two_to_one.new.out = c.copy_from_slice.ensures.after in
-    (copied ∙ turn k.CAPACITY k.DIGEST k.mapping b c.loop-i.i c.args.a.now c.loop-i.a c.two_to_one.new.out c.loop-i.invariant.0 hashed, ap length copied)
+    record {
+      before = next g.met.K.Kind.sound c.args.b.now c.args.a.now c.args.out.now c.loop.counter c.loop.a c.loop.out c.two_to_one.new.out c.copy_from_slice.new.self c.loop.invariant.before c.in_ok-two_to_one.ensures copied;
+      same = ap length copied;
+    }
+
+pub returns-in_err-two_to_one : goal.returns-in_err-two_to_one
+returns-in_err-two_to_one g c =
+    let why = c.in_err-two_to_one.field-0.0 in
+    let long : length c.args.a.now ≡ length c.args.out.now = omega arith in
+    let h = stopped g.met.K.Kind.sound c.args.b.now c.args.a.now c.args.out.now long c.loop.counter c.args.n c.loop.a c.loop.out c.two_to_one.new.out (number_of why) (values_of why) (omega arith) c.loop.invariant.before c.in_err-two_to_one.ensures in
+    search (rules, h)

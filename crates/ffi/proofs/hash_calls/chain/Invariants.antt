@@ -1,7 +1,9 @@
-use mathlib.Core.Path.{◌≡◌}
-use lib.ListN.{length}
-use Rattle.ffi.specs.Chains.{chained}
+use Rattle.std.proofs.Common.{◌≡◌, length}
+use Rattle.ffi.proofs.Pairs.{Before}
 use Rattle.ffi.proofs.hash_calls.chain.Given as goal
 
-abbrev pub invariant-loop-i : goal.invariant-loop-i
-invariant-loop-i g l = (l.a ≡ chained g.K.Kind.CAPACITY g.K.Kind.DIGEST g.K.Kind.mapping l.b l.i l.initial.a) × (length l.a ≡ length l.out)
+abbrev pub invariant-loop : goal.invariant-loop
+invariant-loop g l = record {
+  before : Before g.K.Kind.CAPACITY g.K.Kind.DIGEST g.K.Kind.mapping l.b l.initial.a l.initial.out l.counter l.a l.out;
+  same : length l.a ≡ length l.out;
+}
