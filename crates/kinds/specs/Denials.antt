@@ -1,5 +1,6 @@
 -- The number, the layer and the values of each denial that the program returns.
-use Rattle.std.specs.Prelude.{ℕ, List, [], ◌∷◌, Ok, Err, Result, codes}
+use Rattle.std.specs.List.{flat_map}
+use Rattle.std.specs.Prelude.{ℕ, List, [], ◌∷◌, Ok, Err, Result, codes, ◌++◌, decimal}
 use Rattle.kinds.specs.declared.denial.Denial.{Denial}
 use Rattle.kinds.specs.declared.denial.Denial.TheVariants as denial
 use Rattle.kinds.specs.declared.denial.Layer.{Layer}
@@ -64,3 +65,7 @@ values_of denial.OpeningsAlike = []
 abbrev pub told : {A : Type 0} → Result A Denial → Answer
 told (Ok x) = granted
 told (Err e) = denied (number_of e) (values_of e)
+
+-- how a denial is written: its number, its layer, and the index of a word where there is one
+abbrev pub denial_text : Denial → List ℕ
+denial_text d = decimal (number_of d) ++ codes " " ++ layer_word (layer_of d) ++ flat_map (λ v. codes " " ++ decimal v) (values_of d)

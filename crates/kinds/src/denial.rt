@@ -1,6 +1,6 @@
 ghost use Rattle.std.specs.Prelude.{◌≡◌, List, Some};
 ghost use Rattle.std.specs.Option.{option_to_list};
-ghost use Rattle.kinds.specs.Denials.{number_of, layer_of, values_of, layer_word};
+ghost use Rattle.kinds.specs.Denials.{number_of, layer_of, values_of, layer_word, denial_text};
 
 use std::fmt;
 
@@ -99,13 +99,15 @@ impl fmt::Display for Layer {
     }
 }
 
-// The number, the layer, and the index of a word where there is one.
 impl fmt::Display for Denial {
+    ghost output = { λ denial. Some (denial_text denial) };
+
     fn fmt<W: fmt::Write>(&self, f: &mut fmt::Formatter<W>) -> fmt::Result {
-        write!(f, "{} {}", self.number(), self.layer())?;
+        let number = self.number();
+        let layer = self.layer().word();
         match self.index() {
-            Some(i) => write!(f, " {i}"),
-            None => Ok(()),
+            Some(i) => write!(f, "{number} {layer} {i}"),
+            None => write!(f, "{number} {layer}"),
         }
     }
 }

@@ -1,5 +1,5 @@
 -- The kinds by their numbers.
-use Rattle.std.specs.Prelude.{ℕ, cond, Some, None, Ok, Err, Option, Result, ◌==◌}
+use Rattle.std.specs.Prelude.{ℕ, List, codes, cond, Some, None, Ok, Err, Option, Result, ◌==◌}
 use Rattle.rpo_kinds.specs.declared.names.KindName.{KindName}
 use Rattle.rpo_kinds.specs.declared.names.KindName.TheVariants as kind
 use Rattle.rpo_kinds.specs.declared.names.UnknownKind.{UnknownKind}
@@ -14,3 +14,9 @@ named (Some name) = Ok name
 
 abbrev pub kind_named : ℕ → Result KindName UnknownKind
 kind_named number = named (name_of number)
+
+-- how a kind is named in input and output
+abbrev pub kind_word : KindName → List ℕ
+kind_word kind.Drill = codes "drill"
+kind_word kind.Rpo128 = codes "rpo-128"
+kind_word kind.Rpo160 = codes "rpo-160"

@@ -31,6 +31,11 @@ impl TryFrom<u8> for KindName {
 }
 
 impl fmt::Display for KindName {
+    ghost use Rattle.std.specs.Prelude.{Some};
+    ghost use Rattle.rpo_kinds.specs.Names.{kind_word};
+
+    ghost output = { λ name. Some (kind_word name) };
+
     fn fmt<W: fmt::Write>(&self, f: &mut fmt::Formatter<W>) -> fmt::Result {
         f.write_str(match self {
             KindName::Drill => "drill",
