@@ -65,7 +65,7 @@ impl Sponge {
             return;
         }
         self.absorb(kind, Element { word: 1 });
-        for _i in at + 1..r {
+        for _ in at + 1..r {
             self.absorb(kind, Element { word: 0 });
         }
     }
