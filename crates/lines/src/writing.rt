@@ -13,7 +13,8 @@ pub enum Heading {
 
 pub fn ok_line<const N: usize>() -> Line<N>
     requires { 3 ≤ N }
-    ensures { result ≡ ok_line }
+    ensures is { result ≡ ok_line }
+    ensures short { length result ≤ 3 }
 {
     let mut line = Line::new();
     line.push_text(b"ok\n");
@@ -23,7 +24,8 @@ pub fn ok_line<const N: usize>() -> Line<N>
 // A word and numbers.
 pub fn numbers_line<const N: usize>(word: &[u8], numbers: &[u64]) -> Line<N>
     requires { length word.now + 21 * length numbers.now + 1 ≤ N }
-    ensures { result ≡ numbers_line word.now numbers.now }
+    ensures is { result ≡ numbers_line word.now numbers.now }
+    ensures short { length result ≤ length word.now + 21 * length numbers.now + 1 }
 {
     let mut line = Line::new();
     line.push_text(word);
@@ -48,7 +50,8 @@ impl Heading {
     // The line of the numbers.
     pub fn line<const N: usize>(self, numbers: &[u64]) -> Line<N>
         requires { 21 * length numbers.now + 5 ≤ N }
-        ensures { result ≡ numbers_line (heading_word self) numbers.now }
+        ensures is { result ≡ numbers_line (heading_word self) numbers.now }
+        ensures short { length result ≤ 21 * length numbers.now + 5 }
     {
         numbers_line(self.word(), numbers)
     }
@@ -57,7 +60,8 @@ impl Heading {
 // A refusal: its number, its layer, and the offset of the command.
 pub fn no_line<const N: usize>(number: u8, layer: Layer, offset: usize) -> Line<N>
     requires { 53 ≤ N }
-    ensures { result ≡ no_line number layer offset }
+    ensures is { result ≡ no_line number layer offset }
+    ensures short { length result ≤ 53 }
 {
     let mut refusal = Line::new();
     refusal.push_text(b"no");

@@ -1,4 +1,4 @@
-ghost use Rattle.std.specs.Prelude.{◌≡◌, ◌<◌, [], length as long, IfOk};
+ghost use Rattle.std.specs.Prelude.{◌≡◌, [], IfOk};
 ghost use Rattle.kinds.specs.Denials.{told};
 ghost use Rattle.model.specs.Calls.{making, begin as beginning, feed as feeding, feed_eight as feeding_eight, seal as sealing, abandon as abandoning, clear as clearing, root as rooting};
 ghost use Rattle.model.specs.Lots.{newly_made, step};

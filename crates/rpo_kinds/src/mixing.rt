@@ -102,6 +102,10 @@ impl<S: ParameterSet<M, N>, const M: usize, const N: usize> Kind for Rpo<S, M, N
 }
 
 impl<S: ParameterSet<M, N>, const M: usize, const N: usize> Reversible for Rpo<S, M, N> {
+    const STATE: usize = M;
+
+    ghost STATE = { M };
+
     ghost back = { S.back };
 
     fn unmix(&self, state: &mut [u64]) {

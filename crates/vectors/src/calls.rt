@@ -68,7 +68,7 @@ fn run_any<K: Kind>(rt: &HostRuntime, kind: &K, case: &Case) -> io::Result<()> {
     }
 }
 
-fn run_reversible<K: Reversible>(rt: &HostRuntime, kind: &K, case: &Case) -> io::Result<()> {
+fn run_reversible<K: Kind + Reversible>(rt: &HostRuntime, kind: &K, case: &Case) -> io::Result<()> {
     match case.call {
         Call::Reverse => run(rt, &case.first, |state| reverse(kind, state)),
         _ => run_any(rt, kind, case),

@@ -1,6 +1,4 @@
-ghost use Rattle.std.specs.Prelude.{◌≡◌, ◌-◌, ◌^◌, ◌<◌, ◌≤◌, length, take};
-ghost use Rattle.kinds.specs.Kinds.{State};
-ghost use Rattle.sponge.specs.Digests.{two_to_one};
+ghost use Rattle.std.specs.Prelude.{◌≡◌, ◌-◌, ◌^◌, ◌<◌, ◌≤◌, length};
 ghost use Rattle.lots.specs.Nodes.{under};
 
 use crate::table::Table;

@@ -3,8 +3,8 @@ use Rattle.kinds.specs.Denials.{layer_word}
 use Rattle.lines.proofs.Puts.{three_parts}
 use Rattle.lines.proofs.writing.no_line.Goals as goal
 
-pub returns : goal.returns
-returns g c =
+pub returns-clause-is : goal.returns-clause-is
+returns-clause-is g c =
     let a = rw (c.new-refusal.ensures) at c.push_text.ensures in
     let b = rw a at c.push_spaced_number.ensures.written in
     let d = rw b at c.push_text-2.ensures in

@@ -13,4 +13,4 @@ returns g c =
     let lot = seen_closed w c.args.lot.now in
     let n : c.depth.result * c.DIGEST.result ≡ lot.depth * w = rw (c.depth.ensures.exact, c.DIGEST.ensures) in
     let short = path_short lot.depth w (omega arith) c.requires in
-    rw (c.answer_line.ensures, c.line.ensures) (told_line (open_call w lot c.args.place) path_line 40 (c.depth.result * c.DIGEST.result) (lot.depth * w) c.args.at _ _ n short c.open-answer.ensures)
+    rw (c.answer_line.ensures, c.line.ensures.is) (told_line (open_call w lot c.args.place) path_line 40 (c.depth.result * c.DIGEST.result) (lot.depth * w) c.args.at _ _ n short c.open-answer.ensures)

@@ -26,4 +26,4 @@ returns g c =
       | in-Clear w ↦ rw (w.lot-is, w.answer-is, w.in-Clear.is) (called (clear w.in-Clear.place) _ _ _ w.clear-answer.ensures)
     ]
     in
-    record { after = both.0; line = c.answer_line.ensures ∙ rw (c.ok_line.ensures) both.1 }
+    record { after = both.0; line = c.answer_line.ensures ∙ rw (c.ok_line.ensures.is) both.1 }

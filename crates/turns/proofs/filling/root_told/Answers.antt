@@ -16,4 +16,4 @@ returns g c =
     let after = λ (ws : List ℕ). step k.CAPACITY k.DIGEST k.mapping (seen k.CAPACITY k.DIGEST c.args.lot.now) (root ws) in
     let small : k.DIGEST ≤ 7 = omega (arith, g.met.K.Kind.sound.c_some, g.met.K.Kind.sound.m_small) in
     let written = ap (λ (t : Lot × Answer × List ℕ). (t.1, t.2)) c.root-answer.ensures in
-    rw (c.answer_line.ensures, c.line.ensures) (told_line (λ ws. ((after ws).1, (after ws).2)) root_line 7 c.DIGEST.result k.DIGEST c.args.at (told c.root-answer.result) c.root-answer.new.out c.DIGEST.ensures small written)
+    rw (c.answer_line.ensures, c.line.ensures.is) (told_line (λ ws. ((after ws).1, (after ws).2)) root_line 7 c.DIGEST.result k.DIGEST c.args.at (told c.root-answer.result) c.root-answer.new.out c.DIGEST.ensures small written)
