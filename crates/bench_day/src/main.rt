@@ -7,15 +7,12 @@ mod day;
 mod lot;
 
 use crate::day::run;
-use console::input::{Unread, slurp};
+use console::input::{Unread, read_text};
 use std::io;
 
 fn read_and_run(rt: &HostRuntime) -> Result<(), Unread> {
-    let bytes = slurp(rt)?;
-    let Ok(text) = std::str::from_utf8(&bytes) else {
-        return Err(Unread::NoText);
-    };
-    run(rt, text)
+    let text = read_text(rt)?;
+    run(rt, &text)
 }
 
 fn main(rt: HostRuntime) -> io::Result<()> {

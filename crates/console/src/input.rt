@@ -77,6 +77,12 @@ pub fn slurp(rt: &HostRuntime) -> Result<Vec<u8>, Unread>
     Err(Unread::TooLong)
 }
 
+// All of standard input as a text.
+pub fn read_text(rt: &HostRuntime) -> Result<String, Unread> {
+    let bytes = slurp(rt)?;
+    String::from_utf8(bytes).map_err(|_| Unread::NoText)
+}
+
 // The kind of a name or a number.
 pub fn kind_of(text: &str) -> Result<KindName, Unread> {
     match text {

@@ -2,4 +2,5 @@
 #![tactic(auto)]
 
 pub mod input;
+pub mod no_case;
 pub mod output;

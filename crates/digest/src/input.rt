@@ -9,14 +9,9 @@ pub struct Input {
     pub words: Vec<u64>,
 }
 
-pub(crate) fn parse(heap: Global, bytes: &[u8]) -> Result<Input, Unread> {
-    let Ok(text) = std::str::from_utf8(bytes) else {
-        return Err(Unread::NoText);
-    };
+pub(crate) fn parse(heap: Global, text: &str) -> Result<Input, Unread> {
     let mut lines = text.lines();
-    let Some(first) = lines.next() else {
-        return Err(Unread::NoKind);
-    };
+    let first = lines.next().ok_or(Unread::NoKind)?;
     let kind = kind_of(first.trim())?;
     let mut words = Vec::new(heap);
     for (i, line) in lines.enumerate() {

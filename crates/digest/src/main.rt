@@ -6,7 +6,7 @@ mod report;
 
 use crate::input::{Input, parse};
 use crate::report::report;
-use console::input::{Unread, slurp};
+use console::input::{Unread, read_text};
 use kinds::drill::Drill;
 use rpo_kinds::names::KindName;
 use rpo_kinds::rpo128::Rpo128;
@@ -14,8 +14,8 @@ use rpo_kinds::rpo160::Rpo160;
 use std::io;
 
 fn run(rt: &HostRuntime) -> Result<Input, Unread> {
-    let bytes = slurp(rt)?;
-    parse(rt.alloc(), &bytes)
+    let text = read_text(rt)?;
+    parse(rt.alloc(), &text)
 }
 
 fn main(rt: HostRuntime) -> io::Result<()> {

@@ -5,10 +5,8 @@ use sponge::digest::digest;
 use std::io;
 
 // What is done to a record of that length.
-fn explain(rt: &impl Print, length: usize, rate: usize) -> io::Result<()> {
-    if rate == 0 {
-        return Ok(());
-    }
+fn explain<K: Kind>(rt: &impl Print, length: usize) -> io::Result<()> {
+    let rate = K::rate();
     let over = length % rate;
     let full = length / rate;
     println!(rt; "record: {length} words, {full} full blocks of {rate}, {over} over")?;
@@ -27,7 +25,7 @@ fn explain(rt: &impl Print, length: usize, rate: usize) -> io::Result<()> {
 fn report_in<K: Kind>(rt: &impl Print, kind: &K, words: &[u64], out: &mut [u64]) -> io::Result<()> {
     match digest(kind, words, out) {
         Ok(()) => {
-            explain(rt, words.len(), K::rate())?;
+            explain::<K>(rt, words.len())?;
             print_words(rt, "digest:", out)
         }
         Err(why) => print_refusal(rt, why),

@@ -4,8 +4,9 @@
 
 mod parts;
 
-use crate::parts::{Unread, read_script};
-use console::input::slurp;
+use crate::parts::read_script;
+use console::input::read_text;
+use console::no_case::print_no_case;
 use script::runner::Runner;
 use std::io;
 use std::io::Write;
@@ -25,8 +26,7 @@ fn run_script(rt: &HostRuntime, script: &[u8]) -> io::Result<()> {
 fn run_line(rt: &HostRuntime, number: usize, text: &str) -> io::Result<()> {
     match read_script(rt.alloc(), text) {
         Ok(script) => run_script(rt, &script),
-        Err(Unread::NoScript) => println!(rt; "cannot read line {number}"),
-        Err(Unread::NoMemory(e)) => Err(e.into()),
+        Err(why) => print_no_case(rt, number, why),
     }
 }
 
@@ -38,12 +38,8 @@ fn run_lines(rt: &HostRuntime, text: &str) -> io::Result<()> {
 }
 
 fn main(rt: HostRuntime) -> io::Result<()> {
-    let bytes = match slurp(&rt) {
-        Ok(bytes) => bytes,
-        Err(why) => return println!(rt; "cannot read: {why}"),
-    };
-    let Ok(text) = std::str::from_utf8(&bytes) else {
-        return println!(rt; "cannot read: the input is no text");
-    };
-    run_lines(&rt, text)
+    match read_text(&rt) {
+        Ok(text) => run_lines(&rt, &text),
+        Err(why) => println!(rt; "cannot read: {why}"),
+    }
 }

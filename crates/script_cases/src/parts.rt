@@ -1,26 +1,8 @@
-use std::alloc::{AllocError, AllocFailed, Global};
+use console::no_case::NoCase;
+use std::alloc::Global;
 
 // No script of the corpus is longer than this, so that no line asks for all of the memory.
 const LONGEST: usize = 100000;
-
-// Why a line gives no script.
-#[derive(Drop)]
-pub(crate) enum Unread {
-    NoScript,
-    NoMemory(AllocError),
-}
-
-impl From<AllocError> for Unread {
-    fn from(e: AllocError) -> Unread {
-        Unread::NoMemory(e)
-    }
-}
-
-impl<T: Drop> From<AllocFailed<T>> for Unread {
-    fn from(e: AllocFailed<T>) -> Unread {
-        Unread::NoMemory(e.into())
-    }
-}
 
 fn digit(b: u8) -> Option<u8> {
     match b {
@@ -35,24 +17,24 @@ fn byte(high: u8, low: u8) -> Option<u8> {
 }
 
 // Adds the bytes of a hexadecimal text. `-` stands for no bytes.
-fn push_hex(script: &mut Vec<u8>, text: &[u8]) -> Result<(), Unread> {
+fn push_hex(script: &mut Vec<u8>, text: &[u8]) -> Result<(), NoCase> {
     if text == b"-".as_slice() {
         return Ok(());
     }
     for pair in text.chunks(2) {
         let [high, low] = pair else {
-            return Err(Unread::NoScript);
+            return Err(NoCase::Form);
         };
-        script.push(byte(*high, *low).ok_or(Unread::NoScript)?)?;
+        script.push(byte(*high, *low).ok_or(NoCase::Form)?)?;
     }
     Ok(())
 }
 
 // The same, a number of times over.
-fn push_times(script: &mut Vec<u8>, count: usize, text: &[u8]) -> Result<(), Unread> {
+fn push_times(script: &mut Vec<u8>, count: usize, text: &[u8]) -> Result<(), NoCase> {
     for _ in 0..count {
         if script.len() > LONGEST {
-            return Err(Unread::NoScript);
+            return Err(NoCase::Form);
         }
         push_hex(script, text)?;
     }
@@ -60,18 +42,18 @@ fn push_times(script: &mut Vec<u8>, count: usize, text: &[u8]) -> Result<(), Unr
 }
 
 // A part: hexadecimal, with a count in front of it or not.
-fn push_part(script: &mut Vec<u8>, text: &str) -> Result<(), Unread> {
+fn push_part(script: &mut Vec<u8>, text: &str) -> Result<(), NoCase> {
     let Some((count, rest)) = text.split_once('*') else {
         return push_hex(script, text.as_bytes());
     };
     let Ok(n) = count.parse::<usize>() else {
-        return Err(Unread::NoScript);
+        return Err(NoCase::Form);
     };
     push_times(script, n, rest.as_bytes())
 }
 
 // The script that a line writes.
-pub(crate) fn read_script(heap: Global, text: &str) -> Result<Vec<u8>, Unread> {
+pub(crate) fn read_script(heap: Global, text: &str) -> Result<Vec<u8>, NoCase> {
     let mut script = Vec::new(heap);
     for part in text.split_whitespace() {
         push_part(&mut script, part)?;

@@ -1,24 +1,6 @@
+use console::no_case::NoCase;
 use rpo_kinds::names::KindName;
-use std::alloc::{AllocError, AllocFailed, Global};
-
-// Why a line gives no case.
-#[derive(Drop)]
-pub(crate) enum Unread {
-    NoCase,
-    NoMemory(AllocError),
-}
-
-impl From<AllocError> for Unread {
-    fn from(e: AllocError) -> Unread {
-        Unread::NoMemory(e)
-    }
-}
-
-impl<T: Drop> From<AllocFailed<T>> for Unread {
-    fn from(e: AllocFailed<T>) -> Unread {
-        Unread::NoMemory(e.into())
-    }
-}
+use std::alloc::{AllocError, Global};
 
 // A call. `room` is how many words its output buffer has: where it has none, the words given are the buffer.
 #[derive(Clone, Copy)]
@@ -49,36 +31,36 @@ struct Run {
 // A buffer and a run of words are no longer than this, so that no line asks for all of the memory.
 const LONGEST: usize = 65536;
 
-pub(crate) fn read_kind(text: &str) -> Result<KindName, Unread> {
+pub(crate) fn read_kind(text: &str) -> Result<KindName, NoCase> {
     match text {
         "0" => Ok(KindName::Drill),
         "1" => Ok(KindName::Rpo128),
         "2" => Ok(KindName::Rpo160),
-        _ => Err(Unread::NoCase),
+        _ => Err(NoCase::Form),
     }
 }
 
-pub(crate) fn read_length(text: &str) -> Result<usize, Unread> {
+pub(crate) fn read_length(text: &str) -> Result<usize, NoCase> {
     match text.parse::<usize>() {
         Ok(n) if n <= LONGEST => Ok(n),
-        _ => Err(Unread::NoCase),
+        _ => Err(NoCase::Form),
     }
 }
 
 // The room of a buffer, where a head names one.
-pub(crate) fn read_room(text: Option<&str>) -> Result<Option<usize>, Unread> {
+pub(crate) fn read_room(text: Option<&str>) -> Result<Option<usize>, NoCase> {
     match text {
         Some(part) => Ok(Some(read_length(part)?)),
         None => Ok(None),
     }
 }
 
-fn read_run(text: &str) -> Result<Run, Unread> {
-    let (count, rest) = text.split_once('@').ok_or(Unread::NoCase)?;
-    let (start, step) = rest.split_once('+').ok_or(Unread::NoCase)?;
+fn read_run(text: &str) -> Result<Run, NoCase> {
+    let (count, rest) = text.split_once('@').ok_or(NoCase::Form)?;
+    let (start, step) = rest.split_once('+').ok_or(NoCase::Form)?;
     let count = read_length(count)?;
-    let start = start.parse::<u64>().ok().ok_or(Unread::NoCase)?;
-    let step = step.parse::<u64>().ok().ok_or(Unread::NoCase)?;
+    let start = start.parse::<u64>().ok().ok_or(NoCase::Form)?;
+    let step = step.parse::<u64>().ok().ok_or(NoCase::Form)?;
     Ok(Run { count, start, step })
 }
 
@@ -92,14 +74,14 @@ fn push_run(words: &mut Vec<u64>, run: Run) -> Result<(), AllocError> {
 }
 
 // Adds a word or a run of words.
-fn push_part(words: &mut Vec<u64>, text: &str) -> Result<(), Unread> {
+fn push_part(words: &mut Vec<u64>, text: &str) -> Result<(), NoCase> {
     match text.parse::<u64>() {
         Ok(x) => Ok(words.push(x)?),
         Err(_) => Ok(push_run(words, read_run(text)?)?),
     }
 }
 
-pub(crate) fn read_words(heap: Global, text: &str) -> Result<Vec<u64>, Unread> {
+pub(crate) fn read_words(heap: Global, text: &str) -> Result<Vec<u64>, NoCase> {
     let mut words = Vec::new(heap);
     for part in text.split_whitespace() {
         push_part(&mut words, part)?;
@@ -107,24 +89,24 @@ pub(crate) fn read_words(heap: Global, text: &str) -> Result<Vec<u64>, Unread> {
     Ok(words)
 }
 
-fn read_call(name: &str, room: Option<usize>) -> Result<Call, Unread> {
+fn read_call(name: &str, room: Option<usize>) -> Result<Call, NoCase> {
     match (name, room) {
         ("digest", Some(room)) => Ok(Call::Digest { room }),
         ("pair", Some(room)) => Ok(Call::Pair { room }),
         ("permute", None) => Ok(Call::Permute),
         ("reverse", None) => Ok(Call::Reverse),
-        _ => Err(Unread::NoCase),
+        _ => Err(NoCase::Form),
     }
 }
 
 // What stands before the first colon: a call, the number of a kind, and the room of a buffer.
-fn read_head(text: &str) -> Result<(Call, KindName), Unread> {
+fn read_head(text: &str) -> Result<(Call, KindName), NoCase> {
     let mut parts = text.split_whitespace();
-    let name = parts.next().ok_or(Unread::NoCase)?;
-    let kind = read_kind(parts.next().ok_or(Unread::NoCase)?)?;
+    let name = parts.next().ok_or(NoCase::Form)?;
+    let kind = read_kind(parts.next().ok_or(NoCase::Form)?)?;
     let room = read_room(parts.next())?;
     if parts.next().is_some() {
-        return Err(Unread::NoCase);
+        return Err(NoCase::Form);
     }
     Ok((read_call(name, room)?, kind))
 }
@@ -138,10 +120,10 @@ fn halves(call: Call, text: &str) -> Option<(&str, &str)> {
 }
 
 // The case that a line writes.
-pub(crate) fn read_case(heap: Global, text: &str) -> Result<Case, Unread> {
-    let (head, tail) = text.split_once(':').ok_or(Unread::NoCase)?;
+pub(crate) fn read_case(heap: Global, text: &str) -> Result<Case, NoCase> {
+    let (head, tail) = text.split_once(':').ok_or(NoCase::Form)?;
     let (call, kind) = read_head(head)?;
-    let (left, right) = halves(call, tail).ok_or(Unread::NoCase)?;
+    let (left, right) = halves(call, tail).ok_or(NoCase::Form)?;
     let first = read_words(heap, left)?;
     let second = read_words(heap, right)?;
     Ok(Case {

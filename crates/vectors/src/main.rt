@@ -10,8 +10,8 @@ mod report;
 use crate::calls::{Kinds, run_case};
 use crate::cases::read_case;
 use crate::opened::run_opened;
-use crate::report::show_unread;
-use console::input::slurp;
+use console::input::read_text;
+use console::no_case::print_no_case;
 use std::io;
 
 // One line. What begins with '#' is a heading, which is written as it is.
@@ -24,7 +24,7 @@ fn run_line(rt: &HostRuntime, kinds: &Kinds, number: usize, text: &str) -> io::R
     }
     match read_case(rt.alloc(), text) {
         Ok(case) => run_case(rt, kinds, &case),
-        Err(why) => show_unread(rt, number, why),
+        Err(why) => print_no_case(rt, number, why),
     }
 }
 
@@ -37,12 +37,8 @@ fn run_lines(rt: &HostRuntime, text: &str) -> io::Result<()> {
 }
 
 fn main(rt: HostRuntime) -> io::Result<()> {
-    let bytes = match slurp(&rt) {
-        Ok(bytes) => bytes,
-        Err(why) => return println!(rt; "cannot read: {why}"),
-    };
-    let Ok(text) = std::str::from_utf8(&bytes) else {
-        return println!(rt; "cannot read: the input is no text");
-    };
-    run_lines(&rt, text)
+    match read_text(&rt) {
+        Ok(text) => run_lines(&rt, &text),
+        Err(why) => println!(rt; "cannot read: {why}"),
+    }
 }

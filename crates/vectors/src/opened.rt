@@ -1,6 +1,7 @@
 use crate::calls::{Kinds, PATTERN};
-use crate::cases::{Unread, read_kind, read_room, read_words};
-use crate::report::{show_denial, show_unread, show_words};
+use crate::cases::{read_kind, read_room, read_words};
+use crate::report::{show_denial, show_words};
+use console::no_case::{NoCase, print_no_case};
 use finder::clash::Clash;
 use finder::finding::find_clash;
 use kinds::drill::Drill;
@@ -23,29 +24,29 @@ struct Head {
     room: Option<usize>,
 }
 
-fn read_section(heap: Global, text: &str) -> Result<Section, Unread> {
+fn read_section(heap: Global, text: &str) -> Result<Section, NoCase> {
     if text.trim() == "-" {
         return Ok(None);
     }
     Ok(Some(read_words(heap, text)?))
 }
 
-fn read_head(text: &str) -> Result<Head, Unread> {
+fn read_head(text: &str) -> Result<Head, NoCase> {
     let mut parts = text.split_whitespace().skip(1);
-    let kind = read_kind(parts.next().ok_or(Unread::NoCase)?)?;
-    let depth = parts.next().ok_or(Unread::NoCase)?.parse::<u8>();
-    let place = parts.next().ok_or(Unread::NoCase)?.parse::<u16>();
+    let kind = read_kind(parts.next().ok_or(NoCase::Form)?)?;
+    let depth = parts.next().ok_or(NoCase::Form)?.parse::<u8>();
+    let place = parts.next().ok_or(NoCase::Form)?.parse::<u16>();
     let room = read_room(parts.next())?;
     Ok(Head {
         kind,
-        depth: depth.ok().ok_or(Unread::NoCase)?,
-        place: place.ok().ok_or(Unread::NoCase)?,
+        depth: depth.ok().ok_or(NoCase::Form)?,
+        place: place.ok().ok_or(NoCase::Form)?,
         room,
     })
 }
 
 // The sections behind the head.
-fn read_sections(heap: Global, text: &str) -> Result<Vec<Section>, Unread> {
+fn read_sections(heap: Global, text: &str) -> Result<Vec<Section>, NoCase> {
     let mut all = Vec::new(heap);
     for part in text.split(':') {
         all.push(read_section(heap, part)?)?;
@@ -54,10 +55,7 @@ fn read_sections(heap: Global, text: &str) -> Result<Vec<Section>, Unread> {
 }
 
 fn words_of(section: &Section) -> &[u64] {
-    match section {
-        Some(words) => words,
-        None => &[],
-    }
+    section.as_deref().unwrap_or(&[])
 }
 
 fn run_check<K: Kind>(rt: &HostRuntime, kind: &K, head: Head, s: &[Section]) -> io::Result<()> {
@@ -134,8 +132,8 @@ fn run_any<K: Kind>(rt: &HostRuntime, kind: &K, head: Head, s: &[Section]) -> io
 }
 
 // The head of a line, and its sections.
-fn read_opened(heap: Global, text: &str) -> Result<(Head, Vec<Section>), Unread> {
-    let (front, rest) = text.split_once(':').ok_or(Unread::NoCase)?;
+fn read_opened(heap: Global, text: &str) -> Result<(Head, Vec<Section>), NoCase> {
+    let (front, rest) = text.split_once(':').ok_or(NoCase::Form)?;
     Ok((read_head(front)?, read_sections(heap, rest)?))
 }
 
@@ -148,7 +146,7 @@ pub(crate) fn run_opened(
 ) -> io::Result<()> {
     let (head, sections) = match read_opened(rt.alloc(), text) {
         Ok(read) => read,
-        Err(why) => return show_unread(rt, number, why),
+        Err(why) => return print_no_case(rt, number, why),
     };
     match head.kind {
         KindName::Drill => run_any(rt, &Drill, head, &sections),

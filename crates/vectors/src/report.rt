@@ -1,4 +1,3 @@
-use crate::cases::Unread;
 use kinds::denial::Denial;
 use std::io;
 
@@ -31,13 +30,5 @@ pub(crate) fn report(
     match answer {
         Ok(()) => show_words(rt, after),
         Err(why) => show_denial(rt, why, before == after),
-    }
-}
-
-// A line that gives no case.
-pub(crate) fn show_unread(rt: &impl Print, number: usize, why: Unread) -> io::Result<()> {
-    match why {
-        Unread::NoCase => println!(rt; "cannot read line {number}"),
-        Unread::NoMemory(e) => Err(e.into()),
     }
 }
