@@ -1,5 +1,5 @@
--- The kinds by their numbers.
-use Rattle.std.specs.Prelude.{ℕ, List, codes, cond, Some, None, Ok, Err, Option, Result, ◌==◌}
+-- The kinds by their numbers and by texts.
+use Rattle.std.specs.Prelude.{◌≡◌, ◌⊎◌, ℕ, List, codes, cond, Some, None, Ok, Err, Option, Result, MatchResult, ◌==◌}
 use Rattle.rpo_kinds.specs.declared.names.KindName.{KindName}
 use Rattle.rpo_kinds.specs.declared.names.KindName.TheVariants as kind
 use Rattle.rpo_kinds.specs.declared.names.UnknownKind.{UnknownKind}
@@ -20,3 +20,17 @@ abbrev pub kind_word : KindName → List ℕ
 kind_word kind.Drill = codes "drill"
 kind_word kind.Rpo128 = codes "rpo-128"
 kind_word kind.Rpo160 = codes "rpo-160"
+
+-- its number in one digit
+abbrev pub kind_digit : KindName → List ℕ
+kind_digit kind.Drill = codes "0"
+kind_digit kind.Rpo128 = codes "1"
+kind_digit kind.Rpo160 = codes "2"
+
+-- a text says a kind by its word or by its digit
+abbrev pub Says : List ℕ → KindName → Type 0
+Says text name = (text ≡ kind_word name) ⊎ (text ≡ kind_digit name)
+
+-- a reader answers the kind that a text says, and an error only where it says none
+abbrev pub ReadsKind : List ℕ → Result KindName UnknownKind → Type 0
+ReadsKind text r = MatchResult r (Says text) (λ e. (name : KindName) → ¬ Says text name)

@@ -1,4 +1,5 @@
 use std::fmt;
+use std::str::FromStr;
 
 // The kinds by their names, for a program that is told at run time which one to take.
 #[derive(Clone, Copy, Debug, PartialEq, Eq)]
@@ -8,7 +9,7 @@ pub enum KindName {
     Rpo160,
 }
 
-// A number that no kind has.
+// A number that no kind has, or a text that says none.
 #[derive(Clone, Copy, Debug, PartialEq, Eq)]
 pub struct UnknownKind;
 
@@ -25,6 +26,23 @@ impl TryFrom<u8> for KindName {
             0 => Ok(KindName::Drill),
             1 => Ok(KindName::Rpo128),
             2 => Ok(KindName::Rpo160),
+            _ => Err(UnknownKind),
+        }
+    }
+}
+
+impl FromStr for KindName {
+    type Err = UnknownKind;
+
+    ghost use Rattle.rpo_kinds.specs.Names.{ReadsKind};
+
+    ghost from_str_gives = { ReadsKind };
+
+    fn from_str(text: &str) -> Result<KindName, UnknownKind> {
+        match text {
+            "drill" | "0" => Ok(KindName::Drill),
+            "rpo-128" | "1" => Ok(KindName::Rpo128),
+            "rpo-160" | "2" => Ok(KindName::Rpo160),
             _ => Err(UnknownKind),
         }
     }
