@@ -7,7 +7,6 @@ use crate::constants::RoundConstants;
 use crate::parameters::ParameterSet;
 use crate::reversing::Reversible;
 use kinds::kind::Kind;
-use rpo::matrix::{Circulant, SmallCirculant};
 use rpo::permutation::{Rounds, RoundsBack};
 use std::alloc::AllocError;
 use std::marker::PhantomData;
@@ -49,15 +48,11 @@ impl<S: ParameterSet<M, N>, const M: usize, const N: usize> Rpo<S, M, N> {
     }
 
     fn rounds(&self) -> Rounds<'_, M>
-        ensures row { first_row M result.small.matrix ≡ S.first_row }
+        ensures row { first_row M result.small.matrix ≡ S.matrix_row }
         ensures constants { result.constants.now ≡ constants_named S.text N }
     {
-        let matrix = Circulant {
-            twice: S::row_twice(),
-        };
-        let small = SmallCirculant { matrix };
         Rounds {
-            small,
+            small: S::matrix(),
             constants: &self.constants.words,
         }
     }
@@ -66,11 +61,8 @@ impl<S: ParameterSet<M, N>, const M: usize, const N: usize> Rpo<S, M, N> {
         ensures row { first_row M result.inverse ≡ S.inverse_row }
         ensures constants { result.constants.now ≡ constants_named S.text N }
     {
-        let inverse = Circulant {
-            twice: S::inverse_twice(),
-        };
         RoundsBack {
-            inverse,
+            inverse: S::inverse(),
             constants: &self.constants.words,
         }
     }

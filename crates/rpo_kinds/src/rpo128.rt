@@ -1,5 +1,5 @@
 ghost use Rattle.std.specs.Prelude.{◌≡◌, refl};
-ghost use Rattle.std.proofs.Common.{arith, lit<};
+ghost use Rattle.std.proofs.Common.{arith};
 ghost use Rattle.rpo.proofs.Rounds.{forward_state};
 ghost use Rattle.rpo.specs.Rows.{row_12, inverse_12};
 ghost use Rattle.rpo_kinds.specs.Constants.{constants_named};
@@ -7,7 +7,8 @@ ghost use Rattle.rpo_kinds.specs.Mappings.{text_128, rpo_128, rpo_128_back};
 
 use crate::mixing::Rpo;
 use crate::parameters::ParameterSet;
-use rpo::rows::{INVERSE_12, ROW_12};
+use rpo::matrix::{Circulant, SmallCirculant};
+use rpo::sizes::{inverse_matrix_12, matrix_12};
 
 // The parameters of RPO-128.
 #[derive(Clone, Copy)]
@@ -30,7 +31,7 @@ impl ParameterSet<12, 168> for Set128 {
 
     ghost text = { text_128 };
 
-    ghost first_row = { row_12 };
+    ghost matrix_row = { row_12 };
 
     ghost inverse_row = { inverse_12 };
 
@@ -43,15 +44,13 @@ impl ParameterSet<12, 168> for Set128 {
         b"RPO(18446744069414584321,12,4,128)"
     }
 
-    fn row_twice() -> &'static [u64] {
-        &ROW_12
+    fn matrix() -> SmallCirculant<12> {
+        matrix_12()
     }
 
-    fn inverse_twice() -> &'static [u64] {
-        &INVERSE_12
+    fn inverse() -> Circulant<12> {
+        inverse_matrix_12()
     }
-
-    ghost rows = { (refl, (refl, lit< tt)) };
 
     ghost sizes = { (refl, refl) };
 

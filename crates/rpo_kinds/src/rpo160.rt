@@ -1,5 +1,5 @@
 ghost use Rattle.std.specs.Prelude.{◌≡◌, refl};
-ghost use Rattle.std.proofs.Common.{arith, lit<};
+ghost use Rattle.std.proofs.Common.{arith};
 ghost use Rattle.rpo.proofs.Rounds.{forward_state};
 ghost use Rattle.rpo.specs.Rows.{row_16, inverse_16};
 ghost use Rattle.rpo_kinds.specs.Constants.{constants_named};
@@ -7,7 +7,8 @@ ghost use Rattle.rpo_kinds.specs.Mappings.{text_160, rpo_160, rpo_160_back};
 
 use crate::mixing::Rpo;
 use crate::parameters::ParameterSet;
-use rpo::rows::{INVERSE_16, ROW_16};
+use rpo::matrix::{Circulant, SmallCirculant};
+use rpo::sizes::{inverse_matrix_16, matrix_16};
 
 // The parameters of RPO-160.
 #[derive(Clone, Copy)]
@@ -30,7 +31,7 @@ impl ParameterSet<16, 224> for Set160 {
 
     ghost text = { text_160 };
 
-    ghost first_row = { row_16 };
+    ghost matrix_row = { row_16 };
 
     ghost inverse_row = { inverse_16 };
 
@@ -43,15 +44,13 @@ impl ParameterSet<16, 224> for Set160 {
         b"RPO(18446744069414584321,16,6,160)"
     }
 
-    fn row_twice() -> &'static [u64] {
-        &ROW_16
+    fn matrix() -> SmallCirculant<16> {
+        matrix_16()
     }
 
-    fn inverse_twice() -> &'static [u64] {
-        &INVERSE_16
+    fn inverse() -> Circulant<16> {
+        inverse_matrix_16()
     }
-
-    ghost rows = { (refl, (refl, lit< tt)) };
 
     ghost sizes = { (refl, refl) };
 
