@@ -1,5 +1,5 @@
 // The permutation and its reverse, one text for both sizes.
-ghost use Rattle.std.specs.Prelude.{◌≡◌, ◌+◌, ◌*◌, ◌<◌, ◌≤◌, length, take};
+ghost use Rattle.std.specs.Prelude.{◌≡◌, ◌+◌, ◌*◌, ◌<◌, ◌≤◌, length};
 ghost use Rattle.field.specs.Field.{Elements};
 ghost use Rattle.field.specs.Powers.{exponent_of};
 ghost use Rattle.rpo.specs.FirstRow.{first_row};

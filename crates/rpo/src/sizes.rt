@@ -1,5 +1,5 @@
 // The matrices of the two sizes, and their inverses.
-ghost use Rattle.std.specs.Prelude.{◌≡◌, take};
+ghost use Rattle.std.specs.Prelude.{◌≡◌};
 ghost use Rattle.rpo.specs.FirstRow.{first_row};
 ghost use Rattle.rpo.specs.Rows.{row_12, inverse_12, row_16, inverse_16};
 

@@ -62,7 +62,7 @@ fn state_byte(lanes: &[u64; 25], i: usize) -> u8
     requires { i < 200 }
     ensures { result ≡ state_byte lanes.now i }
 {
-    ((lanes[i / 8] >> (8 * (i % 8))) % 256) as u8
+    lanes[i / 8].to_le_bytes()[i % 8]
 }
 
 // Fills the buffer from a state, which is permuted after each 136 bytes.

@@ -1,4 +1,4 @@
-ghost use Rattle.std.specs.Prelude.{◌≡◌, ℕ, ◌*◌, ◌%◌, length};
+ghost use Rattle.std.specs.Prelude.{◌≡◌, ◌*◌, ◌%◌, length};
 ghost use Rattle.field.specs.Field.{p};
 ghost use Rattle.rpo_kinds.specs.Constants.{little_endian, constant_at, constants_named};
 ghost use Rattle.rpo.specs.Matrix.{made_by};
