@@ -19,11 +19,12 @@ pub struct Rounds<'a, const M: usize> {
 }
 
 impl<'a, const M: usize> Rounds<'a, M> {
-    fn half(self, place: usize, power: Power, s: &mut [u64; M])
-        requires { place + M ≤ length self.constants.now }
-        ensures { s.new ≡ half (first_row M self.entry.small.matrix) self.entry.constants.now place (exponent_of power) s.old }
+    // Half a round, with the first M of the constants.
+    fn half(self, constants: &[u64], power: Power, s: &mut [u64; M])
+        requires { M ≤ length constants.now }
+        ensures { s.new ≡ half (first_row M self.entry.small.matrix) constants.now 0 (exponent_of power) s.old }
     {
-        self.small.mix(self.constants, place, s);
+        self.small.mix(constants, s);
         raise_each(power, s);
     }
 
@@ -31,8 +32,8 @@ impl<'a, const M: usize> Rounds<'a, M> {
         requires { r < 7 }
         ensures { s.new ≡ round (first_row M self.entry.small.matrix) self.entry.constants.now r s.old }
     {
-        self.half(2 * r * M, Power::Seven, s);
-        self.half((2 * r + 1) * M, Power::D, s);
+        self.half(&self.constants[2 * r * M..], Power::Seven, s);
+        self.half(&self.constants[(2 * r + 1) * M..], Power::D, s);
     }
 
     // The permutation.
@@ -42,6 +43,18 @@ impl<'a, const M: usize> Rounds<'a, M> {
         for r in 0..7 {
             self.round(r, s);
         }
+    }
+}
+
+// The first M of the constants taken off s.
+fn unkey<const M: usize>(constants: &[u64], s: &mut [u64; M])
+    requires enough { M ≤ length constants.now }
+    requires elements { Elements constants.now }
+    requires state { Elements s.old }
+    ensures { s.new ≡ unkeyed constants.now 0 s.old }
+{
+    for (i, x) in s.iter_mut().enumerate() {
+        *x = (Element { word: *x } - Element { word: constants[i] }).word;
     }
 }
 
@@ -56,24 +69,14 @@ pub struct RoundsBack<'a, const M: usize> {
 }
 
 impl<'a, const M: usize> RoundsBack<'a, M> {
-    // The constants from a place on taken off s.
-    fn unkey(self, place: usize, s: &mut [u64; M])
-        requires place { place + M ≤ length self.constants.now }
-        requires state { Elements s.old }
-        ensures { s.new ≡ unkeyed self.entry.constants.now place s.old }
-    {
-        for (i, x) in s.iter_mut().enumerate() {
-            let constant = self.constants[place + i];
-            *x = (Element { word: *x } - Element { word: constant }).word;
-        }
-    }
-
-    fn half_back(self, place: usize, power: Power, s: &mut [u64; M])
-        requires { place + M ≤ length self.constants.now }
-        ensures { s.new ≡ half_back (first_row M self.entry.inverse) self.entry.constants.now place (exponent_of power) s.old }
+    // Half a round undone, with the first M of the constants.
+    fn half_back(self, constants: &[u64], power: Power, s: &mut [u64; M])
+        requires enough { M ≤ length constants.now }
+        requires elements { Elements constants.now }
+        ensures { s.new ≡ half_back (first_row M self.entry.inverse) constants.now 0 (exponent_of power) s.old }
     {
         raise_each(power, s);
-        self.unkey(place, s);
+        unkey(constants, s);
         self.inverse.transform(s);
     }
 
@@ -81,8 +84,8 @@ impl<'a, const M: usize> RoundsBack<'a, M> {
         requires { r < 7 }
         ensures { s.new ≡ round_back (first_row M self.entry.inverse) self.entry.constants.now r s.old }
     {
-        self.half_back((2 * r + 1) * M, Power::Seven, s);
-        self.half_back(2 * r * M, Power::D, s);
+        self.half_back(&self.constants[(2 * r + 1) * M..], Power::Seven, s);
+        self.half_back(&self.constants[2 * r * M..], Power::D, s);
     }
 
     // The reverse.

@@ -16,4 +16,4 @@ unfolding half_back raised
 returns g c =
     let is : c.raise_each.new.s ≡ map (λ x. power_of x (exponent_of c.args.power)) c.args.s.now = c.raise_each.ensures in
     c.transform.ensures
-    ∙ ap (times (take g.row.M c.args.self.inverse.twice.now)) (c.unkey.ensures ∙ ap (unkeyed c.args.self.constants.now c.args.place) is)
+    ∙ ap (times (take g.row.M c.args.self.inverse.twice.now)) (c.unkey.ensures ∙ ap (unkeyed c.args.constants.now 0) is)
