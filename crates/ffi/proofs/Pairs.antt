@@ -1,16 +1,16 @@
 -- A chain of pairs, turn by turn.
 use Rattle.std.proofs.Common.{◌≡◌, ℕ, zero, suc, ◌+◌, ◌<◌, true, false, List, [], ◌∷◌, ◌++◌, length, eqb, refl, sym, ap, ◌∙◌, ⊎_elim, arith}
 use Rattle.std.proofs.lemmas.Bool.{cases_Bool, ltb-false, le-ltb, eq-eqb, ne_eqb, eqb-true, not-false}
-use Rattle.std.proofs.lemmas.List.{length-append, get_or_append_left, get_or-append-add}
+use Rattle.std.proofs.Math.Seq.{take-append_seam, drop-append_seam}
 use Rattle.field.specs.Field.{Elements}
-use Rattle.kinds.specs.Answers.{Answer, granted, denied, Cause, answer, if_granted}
+use Rattle.kinds.specs.Answers.{Answer, granted, denied, Cause, answer}
 use Rattle.kinds.specs.Kinds.{State, Sound}
 use Rattle.kinds.specs.Words.{first_bad, not_elements}
 use Rattle.kinds.specs.Permuting.{bad_buffer}
 use Rattle.kinds.proofs.FirstBad.{first_is, all_from}
 use Rattle.sponge.specs.Digests.{two_to_one}
 use Rattle.sponge.specs.Calls.{pair_answer, pair_call}
-use Rattle.sponge.proofs.Parts.{each_append}
+use Rattle.sponge.proofs.Parts.{each_append, each_take, each_drop}
 use Rattle.sponge.proofs.Pairs.{pair_state}
 use Rattle.ffi.specs.Chains.{chained, chain_call}
 
@@ -24,12 +24,6 @@ past x xs e =
 
 long_enough : (n : ℕ) (s : List ℕ) → (bad_buffer n s).0 ≡ false → length s ≡ n
 long_enough n s e = eqb-true (length s) n (not-false (eqb (length s) n) e)
-
-each_left : (xs ys : List ℕ) → Elements (xs ++ ys) → Elements xs
-each_left xs ys e k h = let n = length-append xs ys in rw (get_or_append_left xs ys 0 k h) at (e k (omega arith))
-
-each_right : (xs ys : List ℕ) → Elements (xs ++ ys) → Elements ys
-each_right xs ys e k h = let n = length-append xs ys in rw (get_or-append-add xs ys k 0) at (e (length xs + k) (omega arith))
 
 all_pass : (xs : List ℕ) → Elements xs → (not_elements xs).0 ≡ false
 all_pass xs each =
@@ -45,7 +39,7 @@ module _ (w : ℕ) (a b out : List ℕ) where
       let s3 = past (bad_buffer w out) (not_elements (a ++ b) ∷ []) s2.1 in
       let s4 = past (not_elements (a ++ b)) [] s3.1 in
       let each = all_from (a ++ b) (ltb-false (first_bad (a ++ b)) (length (a ++ b)) s4.0) in
-      (record { long = long_enough w a s1.0; each = each_left a b each }, record { long = long_enough w b s2.0; each = each_right a b each })
+      (record { long = long_enough w a s1.0; each = rw take-append_seam at (each_take (length a) (a ++ b) each) }, record { long = long_enough w b s2.0; each = rw drop-append_seam at (each_drop (length a) (a ++ b) each) })
 
   -- and digests with room for one are granted
   pair_granted : State w a → State w b → length out ≡ w → pair_answer w a b out ≡ granted
@@ -57,12 +51,6 @@ module _ (c w : ℕ) (F : List ℕ → List ℕ) (b start room : List ℕ) where
   abbrev pub Before : ℕ → List ℕ → List ℕ → Type 0
   Before zero a out = (a ≡ start) × (out ≡ room)
   Before (suc i) a out = (pair_answer w start b room ≡ granted) × (a ≡ chained c w F b (suc i) start) × (out ≡ a)
-
-granted_first : (A : Answer) (x y : List ℕ) → granted ≡ A → if_granted A x y ≡ x
-granted_first A x y h = rw (← h) refl
-
-denied_second : (A : Answer) (n : ℕ) (vs x y : List ℕ) → denied n vs ≡ A → if_granted A x y ≡ y
-denied_second A n vs x y h = rw (← h) refl
 
 module _ {number c w : ℕ} {F : List ℕ → List ℕ} (sound : Sound number c w F) (b start room : List ℕ) where
   -- after one hash or more what stands there is a digest, so that the next pair is granted
@@ -84,7 +72,7 @@ module _ {number c w : ℕ} {F : List ℕ → List ℕ} (sound : Sound number c 
   pub next : (i : ℕ) (a out new copy : List ℕ) → Before c w F b start room i a out → (granted, new) ≡ pair_call c w F a b out → copy ≡ new → Before c w F b start room (i + 1) copy new
   next i a out new copy h e q =
       let e0 : granted ≡ pair_answer w a b out = ap (λ (x : Answer × List ℕ). x.0) e in
-      let e1 : new ≡ two_to_one c w F a b = ap (λ (x : Answer × List ℕ). x.1) e ∙ granted_first (pair_answer w a b out) (two_to_one c w F a b) out e0 in
+      let e1 : new ≡ two_to_one c w F a b = rw (← e0) at (ap (λ (x : Answer × List ℕ). x.1) e) in
       let n : i + 1 ≡ suc i = omega arith in
       rw (n, q) (turn i a out new h e0 e1)
 
@@ -92,15 +80,12 @@ module _ {number c w : ℕ} {F : List ℕ → List ℕ} (sound : Sound number c 
     lengths : eqb (length start) (length room) ≡ true
     lengths = eq-eqb (length start) (length room) same
 
-    some : (n : ℕ) → eqb (suc n) 0 ≡ false
-    some n = ne_eqb (suc n) 0 (λ e. omega arith)
-
     halt : (i n : ℕ) (a out : List ℕ) (k : ℕ) (vs : List ℕ) → i < n → Before c w F b start room i a out → denied k vs ≡ pair_answer w a b out
         → ◌≡◌ {A = Answer × (List ℕ × List ℕ)} (denied k vs, (a, out)) (chain_call c w F n start b room)
     halt i zero a out k vs l h e = absurd (omega arith)
     halt zero (suc n) a out k vs l h e =
         let first : pair_answer w start b room ≡ denied k vs = sym (rw (h.0, h.1) at e) in
-        rw (h.0, h.1, lengths, some n, first) refl
+        rw (h.0, h.1, lengths, ne_eqb (suc n) 0 (λ e. omega arith), first) refl
     halt (suc i) (suc n) a out k vs l h e =
         let more : pair_answer w a b out ≡ granted = rw (h.2, h.1) (again (suc i) h.0) in
         let never : denied k vs ≡ granted = e ∙ more in
@@ -110,5 +95,5 @@ module _ {number c w : ℕ} {F : List ℕ → List ℕ} (sound : Sound number c 
         → ◌≡◌ {A = Answer × (List ℕ × List ℕ)} (denied k vs, (a, new)) (chain_call c w F n start b room)
     stopped i n a out new k vs l h e =
         let e0 : denied k vs ≡ pair_answer w a b out = ap (λ (x : Answer × List ℕ). x.0) e in
-        let e1 : new ≡ out = ap (λ (x : Answer × List ℕ). x.1) e ∙ denied_second (pair_answer w a b out) k vs (two_to_one c w F a b) out e0 in
+        let e1 : new ≡ out = rw (← e0) at (ap (λ (x : Answer × List ℕ). x.1) e) in
         rw e1 (halt i n a out k vs l h e0)
