@@ -1,11 +1,11 @@
 -- The steps of the code come to the halves of a round, the rounds and all seven of them, and so do their reverses.
 use Rattle.std.proofs.Common.{◌≡◌, ℕ, suc, ◌+◌, ◌-◌, ◌*◌, ◌%◌, ◌^◌, ◌<◌, List, map, length, get_or, take, drop, sym, ap, ◌∙◌, add-one, arith}
+use Rattle.std.proofs.lemmas.Nat.{pow-mod}
 use Rattle.std.proofs.lemmas.List.FromFn.{fill_by_all}
 use Rattle.std.proofs.Math.Nat.{zero-add}
 use Rattle.std.proofs.lemmas.List.{get_or-drop, get_or-map, length-map, take_rest}
 use Rattle.field.specs.Field.{p, sum_of, power_of, exponent_d}
 use Rattle.field.specs.Lanes.{Lanes}
-use Rattle.field.proofs.Powers.{pow_mod}
 use Rattle.kinds.specs.Kinds.{State}
 use Rattle.rpo.specs.Matrix.{made_by, times, times_at}
 use Rattle.rpo.specs.Permutation.{keyed, unkeyed, raised, half, half_back, round, round_back, forward, backward}
@@ -41,7 +41,7 @@ half_is m row k e s t r long lanes is = is ∙ by_place t lanes.long at ∙ sym 
         (λ i h. get_or-map (λ x. power_of x e) xs i 0 0 (omega arith) ∙ at i h)
 
     at : (i : ℕ) → i < m → power_of (get_or t i 0) e ≡ power_of (sums i) e
-    at i h = sym (pow_mod (get_or t i 0) p e) ∙ ap (λ y. y ^ e % p) (lanes.at i h)
+    at i h = sym (pow-mod (get_or t i 0) e p) ∙ ap (λ y. y ^ e % p) (lanes.at i h)
 
 pub powers_state : (m e : ℕ) (s r : List ℕ) → length s ≡ m → r ≡ map (λ x. power_of x e) s → State m r
 unfolding raised
