@@ -14,6 +14,3 @@ loop-k-init c = refl
 
 pub loop-k-preserved : goal.loop-k-preserved
 loop-k-preserved c = let e = absorbed_more c.args.text.now c.loop-k.k in cc
-
-pub returns : goal.returns
-returns c = let e : c.loop-k.k ≡ length c.args.text.now / 136 + 1 = omega arith in cc
