@@ -1,15 +1,15 @@
 -- What two openings that are admitted have, and the causes of a refusal in a row.
 use Rattle.std.proofs.Common.{◌≡◌, ℕ, ◌*◌, false, List, [], ◌∷◌, ◌++◌, length, Option, ap, arith}
-use Rattle.std.proofs.lemmas.Bool.{ltb-false, le-ltb}
+use Rattle.std.proofs.lemmas.Bool.{le-ltb}
 use Rattle.field.specs.Field.{Elements}
 use Rattle.kinds.specs.Answers.{Answer, granted, denied, Cause, answer}
 use Rattle.kinds.specs.Words.{first_bad, not_elements}
 use Rattle.kinds.proofs.FirstBad.{first_is}
 use Rattle.model.proofs.Causes.{NoneThere, none_there, all_elements}
-use Rattle.model.specs.Calls.{no_place}
+use Rattle.model.specs.Calls.{too_deep, no_place}
 use Rattle.kinds.specs.Permuting.{bad_buffer}
 use Rattle.openings.specs.Opening.{words_of}
-use Rattle.openings.specs.Checks.{too_deep, bad_claim}
+use Rattle.openings.specs.Checks.{bad_claim}
 use Rattle.openings.proofs.Tests.{each_left, each_right}
 use Rattle.openings.proofs.Admitted.{Fine, right_buffer}
 use Rattle.openings.proofs.Causes.{answer_front}
@@ -23,17 +23,15 @@ pub record BothFine (w : ℕ) (root : List ℕ) (depth : ℕ) (claim1 : Option (
 module _ (w : ℕ) (root : List ℕ) (depth place : ℕ) (claim1 : Option (List ℕ)) (path1 : List ℕ) (claim2 : Option (List ℕ)) (path2 out : List ℕ) where
   pub both_fine : NoneThere (handed_causes w root depth place claim1 path1 claim2 path2 out) → BothFine w root depth claim1 path1 claim2 path2 out
   both_fine none =
-      let shallow = ltb-false 8 depth none.0 in
       let sizes = none.1.1.1.1 in
       let all = all_elements (root ++ (words_of claim1 ++ (path1 ++ (words_of claim2 ++ path2)))) sizes.1.1.1.1.0 in
       let r1 = each_right root (words_of claim1 ++ (path1 ++ (words_of claim2 ++ path2))) all in
       let r2 = each_right (words_of claim1) (path1 ++ (words_of claim2 ++ path2)) r1 in
       let r3 = each_right path1 (words_of claim2 ++ path2) r2 in
-      let root_long = right_buffer w root sizes.0 in
-      let root_each = each_left root (words_of claim1 ++ (path1 ++ (words_of claim2 ++ path2))) all in
+      let top = record { long = right_buffer w root sizes.0; each = each_left root (words_of claim1 ++ (path1 ++ (words_of claim2 ++ path2))) all } in
       record {
-        one = record { shallow = shallow; root_long = root_long; root_each = root_each; each = each_left (words_of claim1) (path1 ++ (words_of claim2 ++ path2)) r1; long = right_buffer (depth * w) path1 sizes.1.0; path_each = each_left path1 (words_of claim2 ++ path2) r2 };
-        two = record { shallow = shallow; root_long = root_long; root_each = root_each; each = each_left (words_of claim2) path2 r3; long = right_buffer (depth * w) path2 sizes.1.1.0; path_each = each_right (words_of claim2) path2 r3 };
+        one = record { root_fits = top; each = each_left (words_of claim1) (path1 ++ (words_of claim2 ++ path2)) r1; path_fits = record { long = right_buffer (depth * w) path1 sizes.1.0; each = each_left path1 (words_of claim2 ++ path2) r2 } };
+        two = record { root_fits = top; each = each_left (words_of claim2) path2 r3; path_fits = record { long = right_buffer (depth * w) path2 sizes.1.1.0; each = each_right (words_of claim2) path2 r3 } };
         roomy = right_buffer (4 * w) out sizes.1.1.1.0;
       }
 

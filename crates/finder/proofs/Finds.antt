@@ -65,9 +65,9 @@ pub part_long : (k level : ℕ) (words : List ℕ) → level * k + k ≤ length 
 part_long k level words h = length-take-le k (drop (level * k) words) (let d = length-drop (level * k) words in omega arith)
 
 -- each pair in its place
-module _ {n c w : ℕ} {F : List ℕ → List ℕ} (s : Sound n c w F) (place depth : ℕ) (bottom path : List ℕ) (low : State w bottom) (long : length path ≡ depth * w) (each : Elements path) where
+module _ {n c w : ℕ} {F : List ℕ → List ℕ} (s : Sound n c w F) (place depth : ℕ) (bottom path : List ℕ) (low : State w bottom) (fits : State (depth * w) path) where
   pair_long : (level : ℕ) → level < depth → length (flat (pair_at c w F place bottom path level)) ≡ 2 * w
-  pair_long level h = (flat_state w _ (pair_digests s place depth bottom path low long each level h)).long
+  pair_long level h = (flat_state w _ (pair_digests s place depth bottom path low fits level h)).long
 
   pub pairs_long : (m : ℕ) → m ≤ depth → length (pairs_below c w F place bottom path m) ≡ m * (2 * w)
   pairs_long zero h = sym (zero-mul (2 * w))
@@ -103,8 +103,8 @@ pub compared : {n c w : ℕ} {F : List ℕ → List ℕ} → Sound n c w F → (
     ◌≡◌ {A = Answer × Shown × List ℕ} (granted, x, left) (judged_call c w F root depth place claim1 path1 claim2 path2 out)
 compared {n} {c} {w} {F} s root depth place claim1 path1 claim2 path2 out o1 o2 one two together first second left x k e1 e2 ea f1 f2 ek j f =
     let agreed : answer (verdict_causes (reaches c w F root depth place claim1 path1) (reaches c w F root depth place claim2 path2) (alike claim1 path1 claim2 path2)) ≡ granted = sym (rw (e1, e2, ea) at j) in
-    let g1 : (level : ℕ) → level < depth → part_at k level first ≡ words_at c w F place claim1 path1 level = λ level h. rw (f1, ek) (pair_in s place depth (leaf c w F claim1) path1 (leaf_state s claim1 o1.each) o1.long o1.path_each depth level (omega arith) h) in
-    let g2 : (level : ℕ) → level < depth → part_at k level second ≡ words_at c w F place claim2 path2 level = λ level h. rw (f2, ek) (pair_in s place depth (leaf c w F claim2) path2 (leaf_state s claim2 o2.each) o2.long o2.path_each depth level (omega arith) h) in
+    let g1 : (level : ℕ) → level < depth → part_at k level first ≡ words_at c w F place claim1 path1 level = λ level h. rw (f1, ek) (pair_in s place depth (leaf c w F claim1) path1 (leaf_state s claim1 o1.each) o1.path_fits depth level (omega arith) h) in
+    let g2 : (level : ℕ) → level < depth → part_at k level second ≡ words_at c w F place claim2 path2 level = λ level h. rw (f2, ek) (pair_in s place depth (leaf c w F claim2) path2 (leaf_state s claim2 o2.each) o2.path_fits depth level (omega arith) h) in
     let all : ◌≡◌ {A = Shown × List ℕ} (x, left) (found c w F depth place claim1 path1 claim2 path2 out) =
     f ∙ shows_agree (λ level. part_at k level first) (λ level. part_at k level second) (words_at c w F place claim1 path1) (words_at c w F place claim2 path2) claim1 claim2 out depth g1 g2 in
     rw (agreed, ← all)

@@ -5,11 +5,11 @@ use Rattle.kinds.specs.Kinds.{Sound}
 use Rattle.kinds.specs.Answers.{Answer, granted, denied, if_granted}
 use Rattle.kinds.specs.Permuting.{bad_buffer}
 use Rattle.sponge.proofs.Parts.{each_append}
-use Rattle.model.specs.Calls.{no_place}
+use Rattle.model.specs.Calls.{too_deep, no_place}
 use Rattle.model.specs.Trees.{leaf}
 use Rattle.model.proofs.Causes.{NoneThere, none_there, granted_by}
 use Rattle.openings.specs.Opening.{same, words_of, is_right, part_at, Pair, flat, own_at, pair_at, reaches}
-use Rattle.openings.specs.Checks.{too_deep, bad_claim, check_causes, check_answer}
+use Rattle.openings.specs.Checks.{bad_claim, check_causes, check_answer}
 use Rattle.openings.proofs.Digests.{same_decides, leaf_state, pair_digests, from_flat, paired_parts}
 use Rattle.openings.proofs.Admitted.{Fine, admitted_fine, not_false}
 use Rattle.finder.specs.Findings.{Shown, nothing, same_claim, alike, highest, claims_show, show_at, handed_causes, words_at, found, verdict, find_answer, find_call}
@@ -41,8 +41,8 @@ module _ {n c w : ℕ} {F : List ℕ → List ℕ} (s : Sound n c w F) (root : L
   -- pairs are alike where their words are
   pair_from : (level : ℕ) → level < depth → words_at c w F place claim1 path1 level ≡ words_at c w F place claim2 path2 level → pair_at c w F place (leaf c w F claim1) path1 level ≡ pair_at c w F place (leaf c w F claim2) path2 level
   pair_from level h e =
-      from_flat w _ _ (pair_digests s place depth (leaf c w F claim1) path1 (leaf_state s claim1 o1.each) o1.long o1.path_each level h)
-      (pair_digests s place depth (leaf c w F claim2) path2 (leaf_state s claim2 o2.each) o2.long o2.path_each level h) e
+      from_flat w _ _ (pair_digests s place depth (leaf c w F claim1) path1 (leaf_state s claim1 o1.each) o1.path_fits level h)
+      (pair_digests s place depth (leaf c w F claim2) path2 (leaf_state s claim2 o2.each) o2.path_fits level h) e
 
   halved : (level : ℕ) → pair_at c w F place (leaf c w F claim1) path1 level ≡ pair_at c w F place (leaf c w F claim2) path2 level →
       (own_at c w F place (leaf c w F claim1) path1 level ≡ own_at c w F place (leaf c w F claim2) path2 level) × (part_at w level path1 ≡ part_at w level path2)
@@ -54,7 +54,7 @@ module _ {n c w : ℕ} {F : List ℕ → List ℕ} (s : Sound n c w F) (root : L
   own_alike low h a = ⊎_elim (λ e. rw e tops) (λ ne. (halved low (a low (omega arith) (omega arith))).0) (cases_eq low depth)
 
   parts_alike : AlikeFrom 0 depth (pair_at c w F place (leaf c w F claim1) path1) (pair_at c w F place (leaf c w F claim2) path2) → path1 ≡ path2
-  parts_alike a = paths_alike w depth path1 path2 o1.long o2.long (λ k h. (halved k (a k (omega arith) h)).1)
+  parts_alike a = paths_alike w depth path1 path2 o1.path_fits.long o2.path_fits.long (λ k h. (halved k (a k (omega arith) h)).1)
 
 real_claims : (c w : ℕ) (F : List ℕ → List ℕ) (depth : ℕ) (pair1 pair2 : ℕ → Pair) (claim1 claim2 : Option (List ℕ)) (out : List ℕ) → AlikeFrom 0 depth pair1 pair2 → leaf c w F claim1 ≡ leaf c w F claim2 → (claim1 ≡ claim2 → ⊥) → Real c w F depth pair1 pair2 claim1 claim2 out out (claims_show claim1 claim2)
 real_claims c w F depth pair1 pair2 (Some xs) (Some ys) out a e ne =
@@ -81,8 +81,8 @@ real_at {n} {c} {w} {F} s root depth place claim1 path1 claim2 path2 out o1 o2 t
     let words1 = words_at c w F place claim1 path1 in
     let words2 = words_at c w F place claim2 path2 in
     let top = highest_some (λ level. same (words1 level) (words2 level)) depth level e in
-    let d1 = pair_digests s place depth (leaf c w F claim1) path1 (leaf_state s claim1 o1.each) o1.long o1.path_each level top.within in
-    let d2 = pair_digests s place depth (leaf c w F claim2) path2 (leaf_state s claim2 o2.each) o2.long o2.path_each level top.within in
+    let d1 = pair_digests s place depth (leaf c w F claim1) path1 (leaf_state s claim1 o1.each) o1.path_fits level top.within in
+    let d2 = pair_digests s place depth (leaf c w F claim2) path2 (leaf_state s claim2 o2.each) o2.path_fits level top.within in
     let a : AlikeFrom (suc level) depth (pair_at c w F place (leaf c w F claim1) path1) (pair_at c w F place (leaf c w F claim2) path2) =
     λ k l h. pair_from s root depth place claim1 path1 claim2 path2 o1 o2 tops k h ((same_decides (words1 k) (words2 k)).0 (top.above k (omega arith) h)) in
     record {
@@ -121,7 +121,7 @@ accepted_parts (denied m vs) b e = absurd (let z : ◌≡◌ {A = ℕ} 0 1 = cc 
 check_granted : (w : ℕ) (root : List ℕ) (depth place : ℕ) (claim : Option (List ℕ)) (path : List ℕ) → (too_deep depth).0 ≡ false → (no_place depth place).0 ≡ false → (bad_claim claim).0 ≡ false → (bad_buffer w root).0 ≡ false → (bad_buffer (depth * w) path).0 ≡ false → Fine w root depth claim path → check_answer w root depth place claim path ≡ granted
 check_granted w root depth place claim path e1 e2 e3 e4 e5 o =
     granted_by (check_causes w root depth place claim path)
-    (e1, (e2, (e3, (e4, (e5, (good_elements (root ++ (words_of claim ++ path)) (each_append root _ o.root_each (each_append (words_of claim) path o.each o.path_each)), tt))))))
+    (e1, (e2, (e3, (e4, (e5, (good_elements (root ++ (words_of claim ++ path)) (each_append root _ o.root_fits.each (each_append (words_of claim) path o.each o.path_fits.each)), tt))))))
 
 module _ {n c w : ℕ} {F : List ℕ → List ℕ} (s : Sound n c w F) (root : List ℕ) (depth place : ℕ) (claim1 : Option (List ℕ)) (path1 : List ℕ) (claim2 : Option (List ℕ)) (path2 out : List ℕ) where
   -- what a granted search says of its openings
@@ -161,10 +161,10 @@ module _ {n c w : ℕ} {F : List ℕ → List ℕ} (s : Sound n c w F) (root : L
       let a2 = accepted_parts (check_answer w root depth place claim2 path2) _ both.second in
       let n1 = none_there (check_causes w root depth place claim1 path1) a1.0 in
       let n2 = none_there (check_causes w root depth place claim2 path2) a2.0 in
-      let o1 = admitted_fine w root depth place claim1 path1 a1.0 in
-      let o2 = admitted_fine w root depth place claim2 path2 a2.0 in
+      let o1 = admitted_fine w root depth claim1 path1 place a1.0 in
+      let o2 = admitted_fine w root depth claim2 path2 place a2.0 in
       let roomy : (bad_buffer (4 * w) out).0 ≡ false = rw (eq-eqb (length out) (4 * w) ol) in
-      let words = good_elements (root ++ (words_of claim1 ++ (path1 ++ (words_of claim2 ++ path2)))) (each_append root _ o1.root_each (each_append (words_of claim1) _ o1.each (each_append path1 _ o1.path_each (each_append (words_of claim2) path2 o2.each o2.path_each)))) in
+      let words = good_elements (root ++ (words_of claim1 ++ (path1 ++ (words_of claim2 ++ path2)))) (each_append root _ o1.root_fits.each (each_append (words_of claim1) _ o1.each (each_append path1 _ o1.path_fits.each (each_append (words_of claim2) path2 o2.each o2.path_fits.each)))) in
       let handed = handed_causes w root depth place claim1 path1 claim2 path2 out in
       let judging = verdict c w F root depth place claim1 path1 claim2 path2 in
       let given : NoneThere handed = (n1.0, (n1.1.0, (n1.1.1.0, (n2.1.1.0, (n1.1.1.1.0, (n1.1.1.1.1.0, (n2.1.1.1.1.0, (roomy, (words, tt))))))))) in

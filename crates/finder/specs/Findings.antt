@@ -4,10 +4,10 @@ use Rattle.kinds.specs.declared.denial.Denial.{Denial}
 use Rattle.kinds.specs.Answers.{Answer, Cause, answer, if_granted}
 use Rattle.kinds.specs.Words.{not_elements}
 use Rattle.kinds.specs.Permuting.{bad_buffer}
-use Rattle.model.specs.Calls.{no_place}
+use Rattle.model.specs.Calls.{too_deep, no_place}
 use Rattle.model.specs.Trees.{leaf}
 use Rattle.openings.specs.Opening.{same, words_of, flat, pair_at, reaches}
-use Rattle.openings.specs.Checks.{too_deep, bad_claim}
+use Rattle.openings.specs.Checks.{bad_claim}
 use Rattle.finder.specs.declared.clash.Clash.{Clash}
 use Rattle.finder.specs.declared.clash.Clash.TheVariants as clash
 

@@ -1,12 +1,12 @@
 // The finder: two openings of one place that come from outside, and the clash that they show.
 ghost use Rattle.std.specs.Prelude.{◌≡◌};
-ghost use Rattle.std.specs.Option.{option_map};
 ghost use Rattle.kinds.specs.Answers.{answer, granted};
 ghost use Rattle.kinds.specs.Denials.{told};
+ghost use Rattle.openings.specs.Sites.{claim_of};
 ghost use Rattle.finder.specs.Findings.{shown, handed_causes, verdict_causes, find_call, judged_call};
 
 use crate::clash::Clash;
-use crate::showing::show_highest;
+use crate::showing::{Climbed, show_highest};
 use kinds::denial::Denial;
 use kinds::kind::Kind;
 use openings::climbing::reach;
@@ -38,17 +38,25 @@ fn find_admitted<K: Kind>(
     second: Opening<'_>,
     out: &mut [u64],
 ) -> Result<Clash, Denial>
-    requires { answer (handed_causes K.DIGEST site.root.now site.depth site.place (option_map (λ x. x.now) first.claim) first.path.now (option_map (λ x. x.now) second.claim) second.path.now out.old) ≡ granted }
-    ensures { (told result, shown result, out.new) ≡ judged_call K.CAPACITY K.DIGEST K.mapping site.entry.root.now site.entry.depth site.entry.place (option_map (λ x. x.now) first.entry.claim) first.entry.path.now (option_map (λ x. x.now) second.entry.claim) second.entry.path.now out.old }
+    requires { answer (handed_causes K.DIGEST site.root.now site.depth.levels site.place (claim_of first) first.path.now (claim_of second) second.path.now out.old) ≡ granted }
+    ensures { (told result, shown result, out.new) ≡ judged_call K.CAPACITY K.DIGEST K.mapping site.entry.root.now site.entry.depth.levels site.entry.place (claim_of first.entry) first.entry.path.now (claim_of second.entry) second.entry.path.now out.old }
 {
     let k = K::rate();
-    let n = site.depth * k;
+    let n = site.depth.levels() * k;
     let mut ones = [0u64; 128];
     let mut twos = [0u64; 128];
     let one = reach(kind, site, first, &mut ones[..n]);
     let two = reach(kind, site, second, &mut twos[..n]);
     judge(one, two, first == second)?;
-    Ok(show_highest(k, site.depth, &ones[..n], &twos[..n], first, second, out))
+    let first = Climbed {
+        opening: first,
+        pairs: &ones[..n],
+    };
+    let second = Climbed {
+        opening: second,
+        pairs: &twos[..n],
+    };
+    Ok(show_highest(k, site.depth.levels(), first, second, out))
 }
 
 // The first clash from the root downward that two openings of one place show. Where it is of pairs, `out` then holds
@@ -62,13 +70,9 @@ pub fn find_clash<K: Kind>(
     second: Opening<'_>,
     out: &mut [u64],
 ) -> Result<Clash, Denial>
-    ensures { (told result, shown result, out.new) ≡ find_call K.CAPACITY K.DIGEST K.mapping root.now depth place (option_map (λ x. x.now) first.entry.claim) first.entry.path.now (option_map (λ x. x.now) second.entry.claim) second.entry.path.now out.old }
+    ensures { (told result, shown result, out.new) ≡ find_call K.CAPACITY K.DIGEST K.mapping root.now depth place (claim_of first.entry) first.entry.path.now (claim_of second.entry) second.entry.path.now out.old }
 {
-    let site = Site {
-        root,
-        depth: depth as usize,
-        place: place as usize,
-    };
+    let site = Site::new(root, depth, place)?;
     site.admit::<K>(&[first, second])?;
     if out.len() != 4 * K::DIGEST {
         return Err(Denial::BadBuffer);

@@ -1,16 +1,34 @@
 // What two openings show that are known to be accepted, from the pairs that they hashed.
 ghost use Rattle.std.specs.Prelude.{◌≡◌, ◌+◌, ◌*◌, ◌≤◌, length};
-ghost use Rattle.std.specs.Option.{option_map};
-ghost use Rattle.openings.specs.Opening.{same, part_at};
+ghost use Rattle.openings.specs.Opening.{claimed, same, part_at};
+ghost use Rattle.openings.specs.Sites.{claim_of};
 ghost use Rattle.finder.specs.Findings.{shown_by, highest, one_past, claims_show, shows};
 
 use crate::clash::Clash;
 use openings::opening::Opening;
 use openings::words::lay;
 
+// An opening, and the pairs that it hashed at its levels.
+#[derive(Clone, Copy)]
+pub(crate) struct Climbed<'a> {
+    pub(crate) opening: Opening<'a>,
+    pub(crate) pairs: &'a [u64],
+}
+
+impl<'a> Climbed<'a> {
+    // The pair of k words at a level.
+    fn pair(self, k: usize, level: usize) -> &'a [u64]
+        requires { level * k + k ≤ length self.pairs.now }
+        ensures { result.now ≡ part_at k level self.entry.pairs.now }
+    {
+        let at = level * k;
+        &self.pairs[at..at + k]
+    }
+}
+
 // What two claims show whose paths are alike.
 fn show_claims(first: Option<&[u64]>, second: Option<&[u64]>) -> Clash
-    ensures { shown_by result ≡ claims_show (option_map (λ x. x.now) first.entry) (option_map (λ x. x.now) second.entry) }
+    ensures { shown_by result ≡ claims_show (claimed first.entry) (claimed second.entry) }
 {
     match (first, second) {
         (Some(_), Some(_)) => Clash::Records,
@@ -19,23 +37,14 @@ fn show_claims(first: Option<&[u64]>, second: Option<&[u64]>) -> Clash
     }
 }
 
-// The part of k words at a level.
-fn part(words: &[u64], k: usize, level: usize) -> &[u64]
-    requires { level * k + k ≤ length words.now }
-    ensures { result.now ≡ part_at k level words.now }
-{
-    let at = level * k;
-    &words[at..at + k]
-}
-
-// Of n parts of k words, the highest at which two openings differ.
-fn highest_unlike(k: usize, n: usize, ones: &[u64], twos: &[u64]) -> Option<usize>
-    requires one { length ones.now ≡ n * k }
-    requires two { length twos.now ≡ n * k }
-    ensures { one_past result ≡ highest (λ level. same (part_at k level ones.now) (part_at k level twos.now)) n }
+// Of n levels, the highest at which the pairs of k words differ.
+fn highest_unlike(k: usize, n: usize, first: Climbed<'_>, second: Climbed<'_>) -> Option<usize>
+    requires first { length first.pairs.now ≡ n * k }
+    requires second { length second.pairs.now ≡ n * k }
+    ensures { one_past result ≡ highest (λ level. same (part_at k level first.entry.pairs.now) (part_at k level second.entry.pairs.now)) n }
 {
     for level in (0..n).rev() {
-        if part(ones, k, level) != part(twos, k, level) {
+        if first.pair(k, level) != second.pair(k, level) {
             return Some(level);
         }
     }
@@ -46,22 +55,20 @@ fn highest_unlike(k: usize, n: usize, ones: &[u64], twos: &[u64]) -> Option<usiz
 pub(crate) fn show_highest(
     k: usize,
     depth: usize,
-    ones: &[u64],
-    twos: &[u64],
-    first: Opening<'_>,
-    second: Opening<'_>,
+    first: Climbed<'_>,
+    second: Climbed<'_>,
     out: &mut [u64],
 ) -> Clash
-    requires one { length ones.now ≡ depth * k }
-    requires two { length twos.now ≡ depth * k }
+    requires first { length first.pairs.now ≡ depth * k }
+    requires second { length second.pairs.now ≡ depth * k }
     requires room { length out.old ≡ k + k }
-    ensures { (shown_by result, out.new) ≡ shows (λ level. part_at k level ones.now) (λ level. part_at k level twos.now) (option_map (λ x. x.now) first.entry.claim) (option_map (λ x. x.now) second.entry.claim) out.old depth }
+    ensures { (shown_by result, out.new) ≡ shows (λ level. part_at k level first.entry.pairs.now) (λ level. part_at k level second.entry.pairs.now) (claim_of first.entry.opening) (claim_of second.entry.opening) out.old depth }
 {
-    match highest_unlike(k, depth, ones, twos) {
+    match highest_unlike(k, depth, first, second) {
         Some(level) => {
-            lay(part(ones, k, level), part(twos, k, level), out);
+            lay(first.pair(k, level), second.pair(k, level), out);
             Clash::Pairs { level }
         }
-        None => show_claims(first.claim, second.claim),
+        None => show_claims(first.opening.claim, second.opening.claim),
     }
 }

@@ -1,17 +1,15 @@
 -- What an opening that is admitted has.
 use Rattle.std.proofs.Common.{◌≡◌, ℕ, ◌*◌, ◌≤◌, Bool, true, false, not, eqb, List, [], ◌∷◌, ◌++◌, length, take, replicate, Option, sym, refl, ap, ◌∙◌, mul-le-mul, arith}
-use Rattle.std.proofs.lemmas.Bool.{ltb-false, eqb-true}
+use Rattle.std.proofs.lemmas.Bool.{eqb-true}
 use Rattle.field.specs.Field.{Elements}
-use Rattle.kinds.specs.Kinds.{Sound}
-use Rattle.kinds.specs.Answers.{Answer, granted, Cause, answer}
+use Rattle.kinds.specs.Kinds.{State, Sound}
+use Rattle.kinds.specs.Answers.{granted, answer}
 use Rattle.kinds.specs.Words.{not_elements}
-use Rattle.model.specs.Calls.{no_place}
-use Rattle.openings.proofs.Causes.{answer_past}
 use Rattle.std.proofs.lemmas.List.{append-nil}
 use Rattle.kinds.specs.Permuting.{bad_buffer}
 use Rattle.model.proofs.Causes.{none_there, all_elements}
-use Rattle.openings.specs.Opening.{words_of, Ready}
-use Rattle.openings.specs.Checks.{too_deep, bad_claim, check_causes, check_answer}
+use Rattle.openings.specs.Opening.{words_of}
+use Rattle.openings.specs.Checks.{bad_claim, check_causes, check_answer}
 use Rattle.openings.proofs.Tests.{each_left, each_right}
 use Rattle.openings.proofs.Steps.{front_long}
 
@@ -23,26 +21,32 @@ pub right_buffer : (n : ℕ) (s : List ℕ) → (bad_buffer n s).0 ≡ false →
 right_buffer n s e = eqb-true (length s) n (not_false (eqb (length s) n) e)
 
 pub record Fine (w : ℕ) (root : List ℕ) (depth : ℕ) (claim : Option (List ℕ)) (path : List ℕ) : Type 0 where
-  pub shallow : depth ≤ 8
-  pub root_long : length root ≡ w
-  pub root_each : Elements root
+  pub root_fits : State w root
   pub each : Elements (words_of claim)
-  pub long : length path ≡ depth * w
-  pub path_each : Elements path
+  pub path_fits : State (depth * w) path
 
-pub admitted_fine : (w : ℕ) (root : List ℕ) (depth place : ℕ) (claim : Option (List ℕ)) (path : List ℕ) → check_answer w root depth place claim path ≡ granted → Fine w root depth claim path
-admitted_fine w root depth place claim path e =
-    let none = none_there (check_causes w root depth place claim path) e in
-    let all = all_elements (root ++ (words_of claim ++ path)) none.1.1.1.1.1.0 in
-    let rest = each_right root (words_of claim ++ path) all in
-    record {
-      shallow = ltb-false 8 depth none.0;
-      root_long = right_buffer w root none.1.1.1.0;
-      root_each = each_left root (words_of claim ++ path) all;
-      each = each_left (words_of claim) path rest;
-      long = right_buffer (depth * w) path none.1.1.1.1.0;
-      path_each = each_right (words_of claim) path rest;
-    }
+module _ (w : ℕ) (root : List ℕ) (depth : ℕ) (claim : Option (List ℕ)) (path : List ℕ) where
+  pub fine_from : (bad_buffer w root).0 ≡ false → (bad_buffer (depth * w) path).0 ≡ false → (not_elements (root ++ (words_of claim ++ path))).0 ≡ false → Fine w root depth claim path
+  fine_from top long words =
+      let all = all_elements (root ++ (words_of claim ++ path)) words in
+      let rest = each_right root (words_of claim ++ path) all in
+      record {
+        root_fits = record { long = right_buffer w root top; each = each_left root (words_of claim ++ path) all };
+        each = each_left (words_of claim) path rest;
+        path_fits = record { long = right_buffer (depth * w) path long; each = each_right (words_of claim) path rest };
+      }
+
+  pub admitted_fine : (place : ℕ) → check_answer w root depth place claim path ≡ granted → Fine w root depth claim path
+  admitted_fine place e =
+      let none = none_there (check_causes w root depth place claim path) e in
+      fine_from none.1.1.1.0 none.1.1.1.1.0 none.1.1.1.1.1.0
+
+  -- lengths that are admitted, and then words
+  pub fine_in_turn : granted ≡ answer (bad_claim claim ∷ bad_buffer w root ∷ bad_buffer (depth * w) path ∷ []) → granted ≡ answer (not_elements (root ++ (words_of claim ++ (path ++ []))) ∷ []) → Fine w root depth claim path
+  fine_in_turn e f =
+      let shapes = none_there (bad_claim claim ∷ bad_buffer w root ∷ bad_buffer (depth * w) path ∷ []) (sym e) in
+      let words = none_there (not_elements (root ++ (words_of claim ++ path)) ∷ []) (sym (rw append-nil at f)) in
+      fine_from shapes.1.0 shapes.1.1.0 words.0
 
 -- the pairs of a shallow path fit into 128 words; the rate is as the code has it
 pub pairs_fit : {n c w : ℕ} {F : List ℕ → List ℕ} → Sound n c w F → (depth rate : ℕ) → depth ≤ 8 → rate ≡ 2 * w → depth * rate ≤ 128
@@ -59,16 +63,3 @@ module _ {n c w : ℕ} {F : List ℕ → List ℕ} (sound : Sound n c w F) where
   pub pairs_front : (depth rate : ℕ) → depth ≤ 8 → rate ≡ 2 * w → length (take (depth * rate) (replicate {A = ℕ} 128 0)) ≡ depth * (2 * w)
   pairs_front depth rate d e =
       front_long (depth * rate) (depth * rate) (replicate 128 0) refl (pairs_fit sound depth rate d e) ∙ ap (λ (k : ℕ). depth * k) e
-
--- an opening that is admitted can be climbed
-pub ready_for : (w : ℕ) (root : List ℕ) (depth : ℕ) (claim : Option (List ℕ)) (path : List ℕ) (rooms : ℕ) → rooms ≡ depth * (2 * w) → Fine w root depth claim path → Ready w depth (words_of claim) path rooms
-ready_for w root depth claim path rooms pairs fine =
-    record { shallow = fine.shallow; each = fine.each; long = fine.long; path_each = fine.path_each; pairs_long = pairs }
-
--- an opening whose lengths and then words are admitted
-module _ (w : ℕ) (root : List ℕ) (depth place : ℕ) (claim : Option (List ℕ)) (path : List ℕ) where
-  abbrev shapes : List Cause
-  shapes = too_deep depth ∷ no_place depth place ∷ bad_claim claim ∷ bad_buffer w root ∷ bad_buffer (depth * w) path ∷ []
-
-  pub words_last : granted ≡ answer shapes → (x : Answer) → x ≡ answer (not_elements (root ++ (words_of claim ++ (path ++ []))) ∷ []) → x ≡ check_answer w root depth place claim path
-  words_last e x f = (rw append-nil at f) ∙ sym (answer_past shapes (not_elements (root ++ (words_of claim ++ path)) ∷ []) (sym e))

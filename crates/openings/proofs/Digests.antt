@@ -1,5 +1,5 @@
 -- The digests and pairs of an opening are states of their sizes.
-use Rattle.std.proofs.Common.{◌≡◌, ℕ, zero, suc, ◌*◌, ◌<◌, ◌≤◌, Bool, true, false, List, length, take, drop, Some, None, Decides, Option, sym, ap, ◌∙◌, mul-le-mul_right, suc-mul, arith, rules}
+use Rattle.std.proofs.Common.{◌≡◌, ℕ, zero, suc, ◌*◌, ◌<◌, ◌≤◌, Bool, true, false, List, take, drop, Some, None, Decides, Option, sym, ap, ◌∙◌, mul-le-mul_right, suc-mul, arith, rules}
 use Rattle.std.proofs.lemmas.Slice.Eq.{compares_Decides}
 use Rattle.std.proofs.lemmas.List.{length-append, length-take-le, length-drop, take_at, drop_at}
 use Rattle.field.specs.Field.{Elements}
@@ -30,25 +30,25 @@ pub leaf_state : {n c w : ℕ} {F : List ℕ → List ℕ} → Sound n c w F →
 leaf_state sound (Some xs) e = digest_state sound xs e
 leaf_state {n} {c} {w} {F} sound None e = zeros_state w
 
-pub part_state : (w depth level : ℕ) (path : List ℕ) → length path ≡ depth * w → Elements path → level < depth → State w (part_at w level path)
-part_state w depth level path n e h =
+pub part_state : (w depth level : ℕ) (path : List ℕ) → State (depth * w) path → level < depth → State w (part_at w level path)
+part_state w depth level path fits h =
     let m = suc-mul level w in
     let below : suc level * w ≤ depth * w = mul-le-mul_right w (omega arith) in
     record {
-      long = length-take-le w (drop (level * w) path) (let d = length-drop (level * w) path in omega arith);
-      each = each_take w (drop (level * w) path) (each_drop (level * w) path e);
+      long = length-take-le w (drop (level * w) path) (let d = length-drop (level * w) path in let n = fits.long in omega arith);
+      each = each_take w (drop (level * w) path) (each_drop (level * w) path fits.each);
     }
 
 -- a leaf and a path of a depth
-module _ {n c w : ℕ} {F : List ℕ → List ℕ} (sound : Sound n c w F) (place depth : ℕ) (bottom path : List ℕ) (low : State w bottom) (long : length path ≡ depth * w) (each : Elements path) where
+module _ {n c w : ℕ} {F : List ℕ → List ℕ} (sound : Sound n c w F) (place depth : ℕ) (bottom path : List ℕ) (low : State w bottom) (fits : State (depth * w) path) where
   pub own_state : (level : ℕ) → level ≤ depth → State w (own_at c w F place bottom path level)
   own_state zero h = low
   own_state (suc level) h =
-      let d = paired_digests w (is_right place level) _ _ (own_state level (omega arith)) (part_state w depth level path long each (omega arith)) in
+      let d = paired_digests w (is_right place level) _ _ (own_state level (omega arith)) (part_state w depth level path fits (omega arith)) in
       pair_state sound _ _ d.left d.right
 
   pub pair_digests : (level : ℕ) → level < depth → Digests w (pair_at c w F place bottom path level)
-  pair_digests level h = paired_digests w (is_right place level) _ _ (own_state level (omega arith)) (part_state w depth level path long each h)
+  pair_digests level h = paired_digests w (is_right place level) _ _ (own_state level (omega arith)) (part_state w depth level path fits h)
 
 -- a pair is known from its words
 pub from_flat : (w : ℕ) (p q : Pair) → Digests w p → Digests w q → flat p ≡ flat q → p ≡ q

@@ -1,16 +1,12 @@
 -- The check of an opening as a call: what it answers, and whether it accepts.
-use Rattle.std.specs.Prelude.{ℕ, ◌*◌, Bool, false, List, [], ◌∷◌, ◌++◌, length, Some, None, Ok, Err, Option, Result, nat_lt}
+use Rattle.std.specs.Prelude.{ℕ, ◌*◌, Bool, false, List, [], ◌∷◌, ◌++◌, length, Some, None, Ok, Err, Option, Result}
 use Rattle.kinds.specs.declared.denial.Denial.{Denial}
 use Rattle.kinds.specs.Answers.{Answer, Cause, answer, if_granted}
 use Rattle.kinds.specs.Words.{not_elements}
 use Rattle.kinds.specs.Permuting.{bad_buffer}
 use Rattle.sponge.specs.Calls.{bad_length}
-use Rattle.model.specs.Calls.{no_place}
+use Rattle.model.specs.Calls.{too_deep, no_place}
 use Rattle.openings.specs.Opening.{words_of, reaches}
-
--- refusal 1
-abbrev pub too_deep : ℕ → Cause
-too_deep depth = (nat_lt 8 depth, 1, [])
 
 -- refusal 4: nothing is claimed with no length
 abbrev pub bad_claim : Option (List ℕ) → Cause

@@ -1,7 +1,8 @@
 -- An opening: a claim, which is a record or nothing for an empty place, and a path of one digest for each level below
 -- the root; and what it comes to, over a kind with capacity size c, digest size w and mapping F.
-use Rattle.std.specs.Prelude.{◌≡◌, ℕ, zero, suc, ◌*◌, ◌/◌, ◌%◌, ◌^◌, ◌≤◌, Bool, true, false, cond, ◌&&◌, List, [], ◌∷◌, ◌++◌, length, take, drop, Some, None, Option, ◌==◌}
-use Rattle.field.specs.Field.{Elements}
+use Rattle.std.specs.Prelude.{ℕ, zero, suc, ◌*◌, ◌/◌, ◌%◌, ◌^◌, Bool, true, false, cond, ◌&&◌, List, [], ◌∷◌, ◌++◌, take, drop, Some, None, Option, ◌==◌}
+use Rattle.std.specs.Borrow.{Bor}
+use Rattle.std.specs.Option.{option_map}
 use Rattle.sponge.specs.Digests.{two_to_one}
 use Rattle.model.specs.Trees.{leaf}
 
@@ -11,6 +12,10 @@ same [] [] = true
 same [] (y ∷ ys) = false
 same (x ∷ xs) [] = false
 same (x ∷ xs) (y ∷ ys) = x == y && same xs ys
+
+-- a claim as the program has it
+abbrev pub claimed : Option (Bor (List ℕ)) → Option (List ℕ)
+claimed claim = option_map (λ x. x.now) claim
 
 -- the words of a claim
 abbrev pub words_of : Option (List ℕ) → List ℕ
@@ -57,11 +62,3 @@ module _ (c w : ℕ) (F : List ℕ → List ℕ) where
   -- whether an opening comes to the root
   abbrev pub reaches : List ℕ → ℕ → ℕ → Option (List ℕ) → List ℕ → Bool
   reaches root depth place claim path = same (own_at place (leaf c w F claim) path depth) root
-
--- what a climb is handed: elements, a path for the depth, and room for all pairs
-pub record Ready (w depth : ℕ) (words path : List ℕ) (rooms : ℕ) : Type 0 where
-  pub shallow : depth ≤ 8
-  pub each : Elements words
-  pub long : length path ≡ depth * w
-  pub path_each : Elements path
-  pub pairs_long : rooms ≡ depth * (2 * w)

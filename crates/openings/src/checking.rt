@@ -1,7 +1,7 @@
 // The check of an opening that comes from outside.
 ghost use Rattle.std.specs.Prelude.{◌≡◌};
-ghost use Rattle.std.specs.Option.{option_map};
 ghost use Rattle.kinds.specs.Denials.{told};
+ghost use Rattle.openings.specs.Opening.{claimed};
 ghost use Rattle.openings.specs.Checks.{check_call, accepted};
 
 use crate::climbing::reach;
@@ -20,17 +20,13 @@ pub fn check<'a, K: Kind>(
     claim: Option<&'a [u64]>,
     path: &'a [u64],
 ) -> Result<bool, Denial>
-    ensures { (told result, accepted result) ≡ check_call K.CAPACITY K.DIGEST K.mapping root.now depth place (option_map (λ x. x.now) claim.entry) path.now }
+    ensures { (told result, accepted result) ≡ check_call K.CAPACITY K.DIGEST K.mapping root.now depth place (claimed claim.entry) path.now }
 {
-    let site = Site {
-        root,
-        depth: depth as usize,
-        place: place as usize,
-    };
+    let site = Site::new(root, depth, place)?;
     let opening = Opening { claim, path };
     site.admit::<K>(&[opening])?;
     admit_words(&[root, words_of(claim), path])?;
-    let n = site.depth * K::rate();
+    let n = site.depth.levels() * K::rate();
     let mut pairs = [0u64; 128];
     Ok(reach(kind, site, opening, &mut pairs[..n]))
 }

@@ -1,11 +1,10 @@
 // From the leaf of a claim to the top of its path.
-ghost use Rattle.std.specs.Prelude.{◌≡◌, ◌+◌, ◌*◌, ◌<◌, length, take, drop};
-ghost use Rattle.std.specs.Option.{option_map};
+ghost use Rattle.std.specs.Prelude.{◌≡◌, ◌*◌, length};
 ghost use Rattle.field.specs.Field.{Elements};
 ghost use Rattle.kinds.specs.Kinds.{State};
-ghost use Rattle.sponge.specs.Digests.{two_to_one};
 ghost use Rattle.model.specs.Trees.{leaf};
-ghost use Rattle.openings.specs.Opening.{words_of, paired, flat, hash_of, own_at, pairs_below, reaches, Ready};
+ghost use Rattle.openings.specs.Opening.{claimed, words_of, paired, flat, hash_of, own_at, pairs_below, reaches};
+ghost use Rattle.openings.specs.Sites.{claim_of};
 
 use crate::opening::Opening;
 use crate::site::Site;
@@ -16,9 +15,9 @@ use sponge::pair::compress;
 
 // The leaf of a claim.
 fn leaf_of<K: Kind>(kind: &K, claim: Option<&[u64]>, own: &mut [u64])
-    requires each { Elements (words_of (option_map (λ x. x.now) claim)) }
+    requires each { Elements (words_of (claimed claim)) }
     requires long { length own.old ≡ K.DIGEST }
-    ensures { own.new ≡ leaf K.CAPACITY K.DIGEST K.mapping (option_map (λ x. x.now) claim.entry) }
+    ensures { own.new ≡ leaf K.CAPACITY K.DIGEST K.mapping (claimed claim.entry) }
 {
     match claim {
         Some(words) => digest_elements(kind, words, own),
@@ -45,10 +44,11 @@ fn step<K: Kind>(kind: &K, right: bool, own: &mut [u64], sibling: &[u64], pair: 
 
 // From the leaf to the top, one hash for each level.
 fn climb<K: Kind>(kind: &K, site: Site<'_>, path: &[u64], own: &mut [u64], pairs: &mut [u64])
-    requires ready { Ready K.DIGEST site.depth own.old path.now (length pairs.old) }
-    requires room { length own.old ≡ K.DIGEST }
-    ensures own { own.new ≡ own_at K.CAPACITY K.DIGEST K.mapping site.entry.place own.old path.now site.entry.depth }
-    ensures pairs { pairs.new ≡ pairs_below K.CAPACITY K.DIGEST K.mapping site.entry.place own.old path.now site.entry.depth }
+    requires own { State K.DIGEST own.old }
+    requires path { State (site.depth.levels * K.DIGEST) path.now }
+    requires room { length pairs.old ≡ site.depth.levels * (2 * K.DIGEST) }
+    ensures own { own.new ≡ own_at K.CAPACITY K.DIGEST K.mapping site.entry.place own.old path.now site.entry.depth.levels }
+    ensures pairs { pairs.new ≡ pairs_below K.CAPACITY K.DIGEST K.mapping site.entry.place own.old path.now site.entry.depth.levels }
 {
     let w = K::DIGEST;
     for (level, sibling) in path.chunks_exact(w).enumerate() {
@@ -65,9 +65,11 @@ fn climb<K: Kind>(kind: &K, site: Site<'_>, path: &[u64], own: &mut [u64], pairs
 
 // Whether an opening that is known to be one comes to the root; its pairs are left in `pairs`.
 pub fn reach<K: Kind>(kind: &K, site: Site<'_>, opening: Opening<'_>, pairs: &mut [u64]) -> bool
-    requires { Ready K.DIGEST site.depth (words_of (option_map (λ x. x.now) opening.claim)) opening.path.now (length pairs.old) }
-    ensures answer { result ≡ reaches K.CAPACITY K.DIGEST K.mapping site.entry.root.now site.entry.depth site.entry.place (option_map (λ x. x.now) opening.entry.claim) opening.entry.path.now }
-    ensures pairs { pairs.new ≡ pairs_below K.CAPACITY K.DIGEST K.mapping site.entry.place (leaf K.CAPACITY K.DIGEST K.mapping (option_map (λ x. x.now) opening.entry.claim)) opening.entry.path.now site.entry.depth }
+    requires claim { Elements (words_of (claim_of opening)) }
+    requires path { State (site.depth.levels * K.DIGEST) opening.path.now }
+    requires room { length pairs.old ≡ site.depth.levels * (2 * K.DIGEST) }
+    ensures answer { result ≡ reaches K.CAPACITY K.DIGEST K.mapping site.entry.root.now site.entry.depth.levels site.entry.place (claim_of opening.entry) opening.entry.path.now }
+    ensures pairs { pairs.new ≡ pairs_below K.CAPACITY K.DIGEST K.mapping site.entry.place (leaf K.CAPACITY K.DIGEST K.mapping (claim_of opening.entry)) opening.entry.path.now site.entry.depth.levels }
 {
     let mut words = [0u64; 16];
     let own = &mut words[..K::DIGEST];

@@ -1,9 +1,10 @@
 // Where openings are to lead, and what is refused of them before any hash.
-ghost use Rattle.std.specs.Prelude.{◌≡◌, ◌<◌, ◌≤◌};
+ghost use Rattle.std.specs.Prelude.{◌≡◌, ◌<◌, [], ◌∷◌, IfOk};
 ghost use Rattle.std.specs.List.{list_any};
 ghost use Rattle.kinds.specs.Answers.{answer};
 ghost use Rattle.kinds.specs.Denials.{told};
 ghost use Rattle.kinds.specs.Permuting.{bad_buffer};
+ghost use Rattle.model.specs.Calls.{too_deep, no_place};
 ghost use Rattle.openings.specs.Opening.{is_right};
 ghost use Rattle.openings.specs.Checks.{bad_claim};
 ghost use Rattle.openings.specs.Sites.{shape_causes, claim_of};
@@ -12,15 +13,13 @@ use crate::opening::Opening;
 use crate::words::is_bad_claim;
 use kinds::denial::Denial;
 use kinds::kind::Kind;
-
-// The deepest tree.
-pub const DEEPEST: usize = 8;
+use model::depth::Depth;
 
 // A place of a tree of some depth, below a root.
 #[derive(Clone, Copy)]
 pub struct Site<'a> {
     pub root: &'a [u64],
-    pub depth: usize,
+    pub depth: Depth,
     pub place: usize,
 }
 
@@ -39,6 +38,16 @@ fn any_bad_path(openings: &[Opening<'_>], long: usize) -> bool
 }
 
 impl<'a> Site<'a> {
+    // Denies a depth that no tree has, and then a place that the tree has not.
+    pub fn new(root: &'a [u64], depth: u8, place: u16) -> Result<Site<'a>, Denial>
+        ensures answer { told result ≡ answer (too_deep depth ∷ no_place depth place ∷ []) }
+        ensures site { IfOk result (λ s. (s.root.now ≡ root.now) × (s.depth.levels ≡ depth) × (s.place ≡ place)) }
+    {
+        let depth = Depth::try_from(depth)?;
+        let place = depth.admit(place)?;
+        Ok(Site { root, depth, place })
+    }
+
     // Whether the digest at a level is the right one of its pair.
     pub(crate) fn is_on_right(self, level: usize) -> bool
         requires { level < 64 }
@@ -47,20 +56,14 @@ impl<'a> Site<'a> {
         (self.place >> level) % 2 == 1
     }
 
-    // The refusals of numbers and lengths, in their order.
+    // The refusals of lengths, in their order.
     pub fn admit<K: Kind>(self, openings: &[Opening<'_>]) -> Result<(), Denial>
-        ensures { told result ≡ answer (shape_causes K.DIGEST self.entry.root.now self.entry.depth self.entry.place openings.now) }
+        ensures { told result ≡ answer (shape_causes K.DIGEST self.entry.root.now self.entry.depth.levels openings.now) }
     {
-        if self.depth > DEEPEST {
-            return Err(Denial::DepthTooLarge);
-        }
-        if self.place >= 1usize << self.depth {
-            return Err(Denial::NoSuchPlace);
-        }
         if any_bad_claim(openings) {
             return Err(Denial::BadLength);
         }
-        let long = self.depth * K::DIGEST;
+        let long = self.depth.levels() * K::DIGEST;
         if self.root.len() != K::DIGEST || any_bad_path(openings, long) {
             return Err(Denial::BadBuffer);
         }

@@ -1,11 +1,10 @@
 // Words of claims, roots and paths, as they come from outside.
 ghost use Rattle.std.specs.Prelude.{◌≡◌, ◌+◌, ◌≤◌, [], ◌∷◌, ◌++◌, length};
 ghost use Rattle.std.specs.List.{flat_map};
-ghost use Rattle.std.specs.Option.{option_map};
 ghost use Rattle.kinds.specs.Answers.{answer};
 ghost use Rattle.kinds.specs.Denials.{told};
 ghost use Rattle.kinds.specs.Words.{not_elements};
-ghost use Rattle.openings.specs.Opening.{words_of};
+ghost use Rattle.openings.specs.Opening.{claimed, words_of};
 ghost use Rattle.openings.specs.Checks.{bad_claim};
 
 use kinds::denial::Denial;
@@ -14,14 +13,14 @@ use sponge::digest::LONGEST;
 
 // The words of a claim.
 pub fn words_of<'a>(claim: Option<&'a [u64]>) -> &'a [u64]
-    ensures { result.now ≡ words_of (option_map (λ x. x.now) claim.entry) }
+    ensures { result.now ≡ words_of (claimed claim.entry) }
 {
     claim.unwrap_or(&[])
 }
 
 // Whether a claim is too short or too long for a record.
 pub fn is_bad_claim(claim: Option<&[u64]>) -> bool
-    ensures { result ≡ (bad_claim (option_map (λ x. x.now) claim.entry)).0 }
+    ensures { result ≡ (bad_claim (claimed claim.entry)).0 }
 {
     claim.is_some_and(|words| words.is_empty() || words.len() > LONGEST)
 }

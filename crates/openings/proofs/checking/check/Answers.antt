@@ -1,14 +1,12 @@
-use Rattle.std.proofs.Common.{sym}
-use Rattle.std.specs.Option.{option_map}
-use Rattle.kinds.specs.Answers.{granted}
-use Rattle.openings.proofs.Admitted.{admitted_fine, pairs_front, ready_for, words_last}
+use Rattle.openings.specs.Opening.{claimed}
+use Rattle.openings.proofs.Admitted.{pairs_front, fine_in_turn}
 use Rattle.openings.proofs.checking.check.Goals as goal
 
 pub reach-requires : goal.reach-requires
 reach-requires g c =
-    let w = g.K.Kind.DIGEST in
-    let claim = option_map (λ x. x.now) c.args.claim in
-    let words = rw c.words_of.ensures at c.in_ok-admit_words.ensures in
-    let all = words_last w c.args.root.now c.args.depth c.args.place claim c.args.path.now c.in_ok-admit.ensures granted words in
-    let f = admitted_fine w c.args.root.now c.args.depth c.args.place claim c.args.path.now (sym all) in
-    ready_for w c.args.root.now c.args.depth claim c.args.path.now _ (pairs_front g.met.K.Kind.sound c.args.depth c.rate.result f.shallow c.rate.ensures) f
+    let site = c.in_ok-site.site in
+    let fine =
+    fine_in_turn g.K.Kind.DIGEST c.args.root.now site.depth.levels (claimed c.args.claim) c.args.path.now
+    (rw c.in_ok-site.ensures.site.0 at c.in_ok-admit.ensures)
+    (rw c.words_of.ensures at c.in_ok-admit_words.ensures) in
+    record { claim = fine.each; path = fine.path_fits; room = rw (← c.levels.ensures.exact) (pairs_front g.met.K.Kind.sound c.levels.result c.rate.result c.levels.ensures.shallow c.rate.ensures) }

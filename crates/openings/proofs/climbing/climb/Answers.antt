@@ -8,7 +8,7 @@ pub step-requires-clause-own : goal.step-requires-clause-own
 step-requires-clause-own g c =
     let l = c.loop-level in
     let v = l.invariant in
-    own_now g.met.K.Kind.sound c.args.site.place c.args.site.depth c.args.own.now c.args.path.now _ c.requires.ready c.requires.room l.own l.level-iterator.count v.own v.level
+    own_now g.met.K.Kind.sound c.args.site.place c.args.site.depth.levels c.args.own.now c.args.path.now c.requires.own c.requires.path l.own l.level-iterator.count v.own v.level
 
 pub step-requires-clause-sibling : goal.step-requires-clause-sibling
 step-requires-clause-sibling g c =
@@ -17,8 +17,8 @@ step-requires-clause-sibling g c =
     let v = l.invariant in
     let e = c.in-Some.ensures.steps in
     let some = s.w_some in
-    let cut = next_cut g.K.Kind.DIGEST c.args.site.depth c.args.path.now l.level-iterator.iter.rest.now c.requires.ready.long l.level-iterator.count v.rest c.in-Some.sibling.now c.next.new.self.iter.rest.now (omega arith) e.0.1.0 (e.0.1.1 ∙ v.size) in
-    part_now s c.args.site.place c.args.site.depth c.args.own.now c.args.path.now _ c.requires.ready c.requires.room _ _ _ cut
+    let cut = next_cut g.K.Kind.DIGEST c.args.site.depth.levels c.args.path.now l.level-iterator.iter.rest.now c.requires.path.long l.level-iterator.count v.rest c.in-Some.sibling.now c.next.new.self.iter.rest.now (omega arith) e.0.1.0 (e.0.1.1 ∙ v.size) in
+    part_now s c.args.site.place c.args.site.depth.levels c.args.own.now c.args.path.now c.requires.own c.requires.path _ _ _ cut
 
 pub loop-level-preserved : goal.loop-level-preserved
 loop-level-preserved g c =
@@ -29,7 +29,7 @@ loop-level-preserved g c =
     let e = c.in-Some.ensures.steps in
     let some = s.w_some in
     let n = l.level-iterator.count in
-    let cut = next_cut k.DIGEST c.args.site.depth c.args.path.now l.level-iterator.iter.rest.now c.requires.ready.long n v.rest c.in-Some.sibling.now c.next.new.self.iter.rest.now (omega arith) e.0.1.0 (e.0.1.1 ∙ v.size) in
+    let cut = next_cut k.DIGEST c.args.site.depth.levels c.args.path.now l.level-iterator.iter.rest.now c.requires.path.long n v.rest c.in-Some.sibling.now c.next.new.self.iter.rest.now (omega arith) e.0.1.0 (e.0.1.1 ∙ v.size) in
     let below = cut.below in
     let to = 2 * c.DIGEST-w.result * c.in-Some.level in
     let at : to ≡ n * (2 * k.DIGEST) = rw (e.1, c.DIGEST-w.ensures, mul_comm n (2 * k.DIGEST)) in
@@ -41,7 +41,7 @@ loop-level-preserved g c =
       rest = rw e.2 cut.left;
       level = omega arith;
       own = rw e.2 (own_more k.CAPACITY k.DIGEST k.mapping c.args.site.place c.args.own.now c.args.path.now l.own c.step.new.own c.in-Some.sibling.now n _ right v.own cut.here c.step.ensures.own);
-      pairs = rw e.2 (pairs_more s c.args.site.place c.args.site.depth c.args.own.now c.args.path.now _ c.requires.ready c.requires.room l.own c.in-Some.sibling.now c.next.new.self.iter.rest.now l.pairs c.step.new.pair n to _ _ at (l.auto.pairs ∙ c.requires.ready.pairs_long) cut right v.own v.pairs c.step.ensures.pair);
+      pairs = rw e.2 (pairs_more s c.args.site.place c.args.site.depth.levels c.args.own.now c.args.path.now c.requires.own c.requires.path l.own c.in-Some.sibling.now c.next.new.self.iter.rest.now l.pairs c.step.new.pair n to _ _ at (l.auto.pairs ∙ c.requires.room) cut right v.own v.pairs c.step.ensures.pair);
     }
 
 pub returns : goal.returns
@@ -51,9 +51,9 @@ returns g c =
     let v = l.invariant in
     let e = c.in-None.ensures.steps in
     let n = l.level-iterator.count in
-    let at-end : n ≡ c.args.site.depth = cut_ends k.DIGEST c.args.site.depth c.args.path.now l.level-iterator.iter.rest.now c.requires.ready.long n v.rest v.level (rw v.size at e.0.1.0) in
-    let all : n * (2 * k.DIGEST) ≡ c.args.site.depth * (2 * k.DIGEST) = ap (λ (m : ℕ). m * (2 * k.DIGEST)) at-end in
-    let long : length l.pairs ≡ c.args.site.depth * (2 * k.DIGEST) = l.auto.pairs ∙ c.requires.ready.pairs_long in
+    let at-end : n ≡ c.args.site.depth.levels = cut_ends k.DIGEST c.args.site.depth.levels c.args.path.now l.level-iterator.iter.rest.now c.requires.path.long n v.rest v.level (rw v.size at e.0.1.0) in
+    let all : n * (2 * k.DIGEST) ≡ c.args.site.depth.levels * (2 * k.DIGEST) = ap (λ (m : ℕ). m * (2 * k.DIGEST)) at-end in
+    let long : length l.pairs ≡ c.args.site.depth.levels * (2 * k.DIGEST) = l.auto.pairs ∙ c.requires.room in
     record {
       own = v.own ∙ ap (own_at k.CAPACITY k.DIGEST k.mapping c.args.site.place c.args.own.now c.args.path.now) at-end;
       pairs = sym (take_all (n * (2 * k.DIGEST)) l.pairs (omega arith)) ∙ v.pairs ∙ ap (pairs_below k.CAPACITY k.DIGEST k.mapping c.args.site.place c.args.own.now c.args.path.now) at-end;

@@ -12,7 +12,7 @@ invariant-loop-level g l =
       is_finite : (goal.iterator-loop-level g).is_finite l.level-iterator;
       size : l.level-iterator.iter.size ≡ k.DIGEST;
       rest : l.level-iterator.iter.rest.now ≡ drop (n * k.DIGEST) l.path;
-      level : n ≤ l.site.depth;
+      level : n ≤ l.site.depth.levels;
       own : l.own ≡ own_at k.CAPACITY k.DIGEST k.mapping l.site.place l.initial.own l.path n;
       pairs : take (n * (2 * k.DIGEST)) l.pairs ≡ pairs_below k.CAPACITY k.DIGEST k.mapping l.site.place l.initial.own l.path n;
     }

@@ -8,15 +8,10 @@ use Rattle.openings.proofs.climbing.reach.Goals as goal
 
 pub climb-requires : goal.climb-requires
 climb-requires g c =
-    let p = c.requires in
-    let l = leaf_state g.met.K.Kind.sound _ p.each in
-    record {
-      ready = record { shallow = p.shallow; each = rw c.leaf_of.ensures l.each; long = p.long; path_each = p.path_each; pairs_long = p.pairs_long };
-      room = rw c.leaf_of.ensures l.long;
-    }
+    record { own = rw c.leaf_of.ensures (leaf_state g.met.K.Kind.sound _ c.requires.claim); path = c.requires.path; room = c.requires.room }
 
 pub leaf_of-requires : goal.leaf_of-requires
-leaf_of-requires g c = record { each = c.requires.each; long = own_front g.met.K.Kind.sound c.DIGEST.result c.DIGEST.ensures }
+leaf_of-requires g c = record { each = c.requires.claim; long = own_front g.met.K.Kind.sound c.DIGEST.result c.DIGEST.ensures }
 
 pub returns-clause-answer : goal.returns-clause-answer
 returns-clause-answer g c =
