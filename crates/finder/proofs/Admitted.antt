@@ -1,5 +1,5 @@
 -- What two openings that are admitted have, and the causes of a refusal in a row.
-use Rattle.std.proofs.Common.{◌≡◌, ℕ, ◌*◌, false, List, [], ◌∷◌, ◌++◌, length, Option, ap, arith}
+use Rattle.std.proofs.Common.{◌≡◌, ℕ, ◌*◌, false, List, [], ◌∷◌, ◌++◌, length, Option, sym, ap, ◌∙◌, arith}
 use Rattle.std.proofs.lemmas.Bool.{le-ltb}
 use Rattle.field.specs.Field.{Elements}
 use Rattle.kinds.specs.Answers.{Answer, granted, denied, Cause, answer}
@@ -7,12 +7,13 @@ use Rattle.kinds.specs.Words.{first_bad, not_elements}
 use Rattle.kinds.proofs.FirstBad.{first_is}
 use Rattle.model.proofs.Causes.{NoneThere, none_there, all_elements}
 use Rattle.model.specs.Calls.{too_deep, no_place}
+use Rattle.kinds.specs.Kinds.{State}
 use Rattle.kinds.specs.Permuting.{bad_buffer}
 use Rattle.openings.specs.Opening.{words_of}
 use Rattle.openings.specs.Checks.{bad_claim}
 use Rattle.openings.proofs.Tests.{each_left, each_right}
 use Rattle.openings.proofs.Admitted.{Fine, right_buffer}
-use Rattle.openings.proofs.Causes.{answer_front}
+use Rattle.openings.proofs.Causes.{answer_front, answer_past}
 use Rattle.finder.specs.Findings.{Shown, nothing, handed_causes, unless_denied, found, verdict, find_call}
 
 pub record BothFine (w : ℕ) (root : List ℕ) (depth : ℕ) (claim1 : Option (List ℕ)) (path1 : List ℕ) (claim2 : Option (List ℕ)) (path2 out : List ℕ) : Type 0 where
@@ -28,7 +29,7 @@ module _ (w : ℕ) (root : List ℕ) (depth place : ℕ) (claim1 : Option (List 
       let r1 = each_right root (words_of claim1 ++ (path1 ++ (words_of claim2 ++ path2))) all in
       let r2 = each_right (words_of claim1) (path1 ++ (words_of claim2 ++ path2)) r1 in
       let r3 = each_right path1 (words_of claim2 ++ path2) r2 in
-      let top = record { long = right_buffer w root sizes.0; each = each_left root (words_of claim1 ++ (path1 ++ (words_of claim2 ++ path2))) all } in
+      let top : State w root = record { long = right_buffer w root sizes.0; each = each_left root (words_of claim1 ++ (path1 ++ (words_of claim2 ++ path2))) all } in
       record {
         one = record { root_fits = top; each = each_left (words_of claim1) (path1 ++ (words_of claim2 ++ path2)) r1; path_fits = record { long = right_buffer (depth * w) path1 sizes.1.0; each = each_left path1 (words_of claim2 ++ path2) r2 } };
         two = record { root_fits = top; each = each_left (words_of claim2) path2 r3; path_fits = record { long = right_buffer (depth * w) path2 sizes.1.1.0; each = each_right (words_of claim2) path2 r3 } };
@@ -54,11 +55,15 @@ good_elements xs e =
 
 -- the refusals of numbers and lengths come first
 module _ (c w : ℕ) (F : List ℕ → List ℕ) (root : List ℕ) (depth place : ℕ) (claim1 : Option (List ℕ)) (path1 : List ℕ) (claim2 : Option (List ℕ)) (path2 out : List ℕ) where
-  abbrev lengths : List Cause
-  lengths = too_deep depth ∷ no_place depth place ∷ bad_claim claim1 ∷ bad_claim claim2 ∷ bad_buffer w root ∷ bad_buffer (depth * w) path1 ∷ bad_buffer (depth * w) path2 ∷ []
+  abbrev numbers : List Cause
+  numbers = too_deep depth ∷ no_place depth place ∷ []
 
-  pub lengths_denied : (n : ℕ) (vs : List ℕ) → denied n vs ≡ answer lengths → ◌≡◌ {A = Answer × Shown × List ℕ} (denied n vs, nothing, out) (find_call c w F root depth place claim1 path1 claim2 path2 out)
-  lengths_denied n vs e =
+  abbrev lengths : List Cause
+  lengths = bad_claim claim1 ∷ bad_claim claim2 ∷ bad_buffer w root ∷ bad_buffer (depth * w) path1 ∷ bad_buffer (depth * w) path2 ∷ []
+
+  pub lengths_denied : granted ≡ answer numbers → (n : ℕ) (vs : List ℕ) → denied n vs ≡ answer lengths → ◌≡◌ {A = Answer × Shown × List ℕ} (denied n vs, nothing, out) (find_call c w F root depth place claim1 path1 claim2 path2 out)
+  lengths_denied g n vs e =
       let words = not_elements (root ++ (words_of claim1 ++ (path1 ++ (words_of claim2 ++ path2)))) in
+      let rest : List Cause = bad_buffer (4 * w) out ∷ words ∷ verdict c w F root depth place claim1 path1 claim2 path2 in
       ap (λ (a : Answer). unless_denied a out (found c w F depth place claim1 path1 claim2 path2 out))
-      (answer_front lengths (bad_buffer (4 * w) out ∷ words ∷ verdict c w F root depth place claim1 path1 claim2 path2) n vs e)
+      (answer_front lengths rest n vs e ∙ sym (answer_past numbers (lengths ++ rest) (sym g)))

@@ -42,7 +42,8 @@ fn find_admitted<K: Kind>(
     ensures { (told result, shown result, out.new) ≡ judged_call K.CAPACITY K.DIGEST K.mapping site.entry.root.now site.entry.depth.levels site.entry.place (claim_of first.entry) first.entry.path.now (claim_of second.entry) second.entry.path.now out.old }
 {
     let k = K::rate();
-    let n = site.depth.levels() * k;
+    let depth = site.depth.levels();
+    let n = depth * k;
     let mut ones = [0u64; 128];
     let mut twos = [0u64; 128];
     let one = reach(kind, site, first, &mut ones[..n]);
@@ -56,7 +57,7 @@ fn find_admitted<K: Kind>(
         opening: second,
         pairs: &twos[..n],
     };
-    Ok(show_highest(k, site.depth.levels(), first, second, out))
+    Ok(show_highest(k, depth, first, second, out))
 }
 
 // The first clash from the root downward that two openings of one place show. Where it is of pairs, `out` then holds

@@ -6,5 +6,5 @@ use Rattle.finder.proofs.showing.highest_unlike.Given as goal
 
 abbrev pub invariant-loop-level : goal.invariant-loop-level
 invariant-loop-level l =
-    highest (λ level. same (part_at l.k level l.ones) (part_at l.k level l.twos)) l.level
-    ≡ highest (λ level. same (part_at l.k level l.ones) (part_at l.k level l.twos)) l.n
+    highest (λ level. same (part_at l.k level l.first.pairs.now) (part_at l.k level l.second.pairs.now)) l.level
+    ≡ highest (λ level. same (part_at l.k level l.first.pairs.now) (part_at l.k level l.second.pairs.now)) l.n

@@ -3,25 +3,25 @@ use Rattle.openings.specs.Opening.{same, part_at}
 use Rattle.finder.proofs.Finds.{highest_le, part_room, part_long}
 use Rattle.finder.proofs.showing.show_highest.Goals as goal
 
-pub part-requires : goal.part-requires
-part-requires c =
-    let top = highest_le (λ level. same (part_at c.args.k level c.args.ones.now) (part_at c.args.k level c.args.twos.now)) c.args.depth in
+pub pair-requires : goal.pair-requires
+pair-requires c =
+    let top = highest_le (λ level. same (part_at c.args.k level c.args.first.pairs.now) (part_at c.args.k level c.args.second.pairs.now)) c.args.depth in
     let e = c.in-Some.ensures in
     let room = part_room c.args.k c.in-Some.level c.args.depth (omega arith) in
     omega arith
 
-pub part-requires-in-Some : goal.part-requires-in-Some
-part-requires-in-Some c =
-    let top = highest_le (λ level. same (part_at c.args.k level c.args.ones.now) (part_at c.args.k level c.args.twos.now)) c.args.depth in
+pub pair-requires-in-Some : goal.pair-requires-in-Some
+pair-requires-in-Some c =
+    let top = highest_le (λ level. same (part_at c.args.k level c.args.first.pairs.now) (part_at c.args.k level c.args.second.pairs.now)) c.args.depth in
     let e = c.in-Some.ensures in
     let room = part_room c.args.k c.in-Some.level c.args.depth (omega arith) in
     omega arith
 
 pub lay-requires : goal.lay-requires
 lay-requires c =
-    let top = highest_le (λ level. same (part_at c.args.k level c.args.ones.now) (part_at c.args.k level c.args.twos.now)) c.args.depth in
+    let top = highest_le (λ level. same (part_at c.args.k level c.args.first.pairs.now) (part_at c.args.k level c.args.second.pairs.now)) c.args.depth in
     let e = c.in-Some.ensures in
     let room = part_room c.args.k c.in-Some.level c.args.depth (omega arith) in
-    let one = part_long c.args.k c.in-Some.level c.args.ones.now (omega arith) in
-    let two = part_long c.args.k c.in-Some.level c.args.twos.now (omega arith) in
-    rw (c.part.ensures, c.part-in-Some.ensures, one, two) c.requires.room
+    let one = part_long c.args.k c.in-Some.level c.args.first.pairs.now (omega arith) in
+    let two = part_long c.args.k c.in-Some.level c.args.second.pairs.now (omega arith) in
+    rw (c.pair.ensures, c.pair-in-Some.ensures, one, two) c.requires.room
