@@ -1,5 +1,5 @@
 -- What the finder's steps come to.
-use Rattle.std.proofs.Common.{◌≡◌, ℕ, zero, suc, ◌+◌, ◌*◌, ◌<◌, ◌≤◌, Bool, true, false, not, eqb, List, length, take, drop, Option, sym, refl, ap, ◌∙◌, ⊎_elim, mul-le-mul_right, suc-mul, zero-mul, add-one, arith}
+use Rattle.std.proofs.Common.{◌≡◌, ℕ, zero, suc, ◌+◌, ◌*◌, ◌<◌, ◌≤◌, Bool, true, false, not, eqb, List, length, take, drop, Option, sym, refl, ap, ◌∙◌, ⊎_elim, mul-le-mul_right, suc-mul, zero-mul, arith}
 use Rattle.std.proofs.lemmas.Bool.{cases_Bool, cases_eq}
 use Rattle.std.proofs.lemmas.List.{length-append, length-drop, length-take-le, take_all, drop_at, take-append-le, drop-append-le}
 use Rattle.std.proofs.lemmas.Bool.Decides.{Decides-eqb}
@@ -11,29 +11,19 @@ use Rattle.model.specs.Trees.{leaf}
 use Rattle.openings.specs.Opening.{same, part_at, flat, pair_at, pairs_below, reaches}
 use Rattle.openings.proofs.Digests.{leaf_state, pair_digests, flat_state}
 use Rattle.openings.proofs.Tests.{same_result}
-use Rattle.openings.proofs.Admitted.{Fine, not_false}
+use Rattle.openings.proofs.Admitted.{Fine}
 use Rattle.finder.specs.Findings.{Shown, highest, show_at, shows, alike, verdict_causes, words_at, found, judged_call}
 
-not_true : (b : Bool) → not b ≡ true → b ≡ false
-not_true true e = sym e
-not_true false e = refl
+not_not : (b : Bool) → not (not b) ≡ b
+not_not true = refl
+not_not false = refl
 
 -- words that the code finds to differ, or not to
 same_words : (xs ys : List ℕ) → pointwise eqb xs ys ≡ same xs ys
 same_words xs ys = same_result xs ys (pointwise eqb xs ys) (slice_eq-Decides Decides-eqb xs ys _ refl)
 
-pub words_differ : (xs ys : List ℕ) (r : Bool) → r ≡ not (pointwise eqb xs ys) → r ≡ true → same xs ys ≡ false
-words_differ xs ys r e t = sym (same_words xs ys) ∙ not_true (pointwise eqb xs ys) (sym e ∙ t)
-
-pub words_alike : (xs ys : List ℕ) (r : Bool) → r ≡ not (pointwise eqb xs ys) → r ≡ false → same xs ys ≡ true
-words_alike xs ys r e t = sym (same_words xs ys) ∙ not_false (pointwise eqb xs ys) (sym e ∙ t)
-
--- a level that fails with none above it that does, and a level that passes
-pub highest_here : (test : ℕ → Bool) (level : ℕ) → test level ≡ false → suc level ≡ highest test (level + 1)
-highest_here test level e = rw (add-one level, e)
-
-pub highest_on : (test : ℕ → Bool) (level : ℕ) → test level ≡ true → highest test level ≡ highest test (level + 1)
-highest_on test level e = rw (add-one level, e)
+pub words_told : (xs ys : List ℕ) (r : Bool) → r ≡ not (pointwise eqb xs ys) → not r ≡ same xs ys
+words_told xs ys r e = rw (e, same_words xs ys) (not_not (same xs ys))
 
 pub highest_le : (test : ℕ → Bool) (n : ℕ) → highest test n ≤ n
 highest_le test zero = omega arith

@@ -1,3 +1,4 @@
+pub mod Searches
 pub mod Levels
 pub mod Finds
 pub mod Admitted

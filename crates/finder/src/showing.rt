@@ -43,12 +43,9 @@ fn highest_unlike(k: usize, n: usize, first: Climbed<'_>, second: Climbed<'_>) -
     requires second { length second.pairs.now ≡ n * k }
     ensures { one_past result ≡ highest (λ level. same (part_at k level first.entry.pairs.now) (part_at k level second.entry.pairs.now)) n }
 {
-    for level in (0..n).rev() {
-        if first.pair(k, level) != second.pair(k, level) {
-            return Some(level);
-        }
-    }
-    None
+    (0..n)
+        .rev()
+        .find(|level| first.pair(k, *level) != second.pair(k, *level))
 }
 
 // From the root downward, the first level at which the pairs differ.
