@@ -1,6 +1,8 @@
 -- The state that a pair of digests is hashed from, and the refusals of a pair.
-use Rattle.std.proofs.Common.{◌≡◌, ℕ, ◌+◌, ◌-◌, ◌*◌, ◌≤◌, List, [], ◌++◌, length, take, drop, replicate, ap, ◌∙◌, arith}
-use Rattle.std.proofs.lemmas.List.{length-append, length-replicate, length-drop, take-replicate, take_all, drop_all, append_assoc, append-nil}
+use Rattle.std.proofs.Common.{◌≡◌, ℕ, ◌+◌, ◌-◌, ◌*◌, ◌≤◌, List, ◌++◌, length, take, replicate, sym, ap, ◌∙◌, arith}
+use borrow.Rule.Slice.PartMut.{put_mid, same_len_mid}
+use Rattle.std.proofs.lemmas.List.{length-append, length-replicate, length-drop, length-take, take-replicate, append_assoc}
+use Rattle.std.proofs.lemmas.Slice.{take-put_mid}
 use Rattle.kinds.specs.Kinds.{State, Sound}
 use Rattle.sponge.specs.Digests.{two_to_one}
 use Rattle.sponge.proofs.Parts.{each_append, each_zeros, cut_state}
@@ -12,26 +14,18 @@ joined_state c w a b sa sb =
       each = each_append (replicate c 0) (a ++ b) (each_zeros c) (each_append a b sa.each sb.each);
     }
 
--- a state of zeros over whose rate a pair is laid, as code lays it with its own sizes
-module _ (c w m cs ws ct : ℕ) (front a b x y : List ℕ)
-    (ec : cs ≡ c) (ew : ws ≡ w) (et : ct ≡ c) (em : m ≡ c + 2 * w) (small : c + 2 * w ≤ 16)
-    (ef : front ≡ take (cs + ws) (take m (replicate 16 0))) (ex : x ≡ a) (ey : y ≡ b) where
-  laid_pair : (take ct front ++ (x ++ drop (length front - ct) (drop ct front))) ++ y ≡ replicate c 0 ++ (a ++ b)
-  laid_pair =
-      let zeros : front ≡ replicate (c + w) 0 = ef ∙ rw (em, ec, ew) (rw (take-replicate {X = ℕ} (c + 2 * w) 16 0 small) (take-replicate {X = ℕ} (c + w) (c + 2 * w) 0 (omega arith))) in
-      let long : length front ≡ c + w = ap length zeros ∙ length-replicate (c + w) 0 in
-      let none : drop (length front - ct) (drop ct front) ≡ [] = drop_all _ (drop ct front) (omega (arith, length-drop ct front)) in
-      rw (none, ex, ey, et, zeros, take-replicate {X = ℕ} c (c + w) 0 (omega arith)) (simp (append-nil, append_assoc))
-
-  pub laid_state : State w a → State w b → State (c + 2 * w) ((take ct front ++ (x ++ drop (length front - ct) (drop ct front))) ++ y)
-  laid_state sa sb = rw laid_pair (joined_state c w a b sa sb)
-
-  pub laid_hash : {number : ℕ} {F : List ℕ → List ℕ} (n k : ℕ) (mixed out : List ℕ) → Sound number c w F → State w a → State w b → n ≡ w → k ≡ c
-      → mixed ≡ F ((take ct front ++ (x ++ drop (length front - ct) (drop ct front))) ++ y) → out ≡ take n (take (length mixed - k) (drop k mixed)) → out ≡ two_to_one c w F a b
-  laid_hash {F = F} n k mixed out sound sa sb en ek e h =
-      let el : length mixed ≡ c + 2 * w = ap length e ∙ (sound.keeps _ (laid_state sa sb)).long in
-      let all : take (length mixed - k) (drop k mixed) ≡ drop k mixed = take_all (length mixed - k) (drop k mixed) (simp length-drop (omega arith)) in
-      h ∙ rw (all, e, laid_pair, en, ek)
+-- a and b, written behind c of sixteen zeros with sizes that code has
+pub laid_pair : (c w cs ws : ℕ) (a b x y : List ℕ) → c + 2 * w ≤ 16 → cs ≡ c → ws ≡ w → length a ≡ w → length b ≡ w → x ≡ a → y ≡ b
+    → take (c + 2 * w) (put_mid (cs + ws) (cs + 2 * ws - (cs + ws)) (put_mid cs (cs + ws - cs) (replicate 16 0) x) y) ≡ replicate c 0 ++ (a ++ b)
+laid_pair c w cs ws a b x y small ec ew la lb ex ey =
+    let zeros : List ℕ = replicate 16 0 in
+    let long : length zeros ≡ 16 = length-replicate {A = ℕ} 16 0 in
+    let k : c + w - c ≡ w = omega arith in
+    let one : List ℕ = put_mid c (c + w - c) zeros a in
+    let one_long : length one ≡ 16 = same_len_mid c (c + w - c) zeros a (la ∙ sym (simp (length-take, length-drop) (omega (arith, long)))) ∙ long in
+    let front : take c zeros ≡ replicate c 0 = take-replicate {X = ℕ} c 16 0 (omega arith) in
+    let half : take (c + w) one ≡ replicate c 0 ++ a = take-put_mid c (c + w - c) zeros a (c + w) (omega (arith, la)) (omega (arith, long)) ∙ ap (λ l. l ++ a) front in
+    rw (ec, ew, ex, ey) (take-put_mid (c + w) _ one b (c + 2 * w) (omega (arith, lb)) (omega (arith, one_long)) ∙ ap (λ l. l ++ b) half ∙ append_assoc (replicate c 0) a b)
 
 pub pair_state : {n c w : ℕ} {F : List ℕ → List ℕ} → Sound n c w F → (a b : List ℕ) → State w a → State w b → State w (two_to_one c w F a b)
 pair_state {n} {c} {w} {F} sound a b sa sb = cut_state c w (F (replicate c 0 ++ (a ++ b))) (sound.keeps _ (joined_state c w a b sa sb)) (omega arith)

@@ -1,5 +1,5 @@
 -- The program's sponge: sixteen words, of which a kind uses the front, and a count of which it uses the rest by its rate.
-use Rattle.std.proofs.Common.{◌≡◌, ℕ, suc, ◌+◌, ◌-◌, ◌*◌, ◌%◌, ◌<◌, ◌≤◌, List, ◌∷◌, ◌++◌, take, drop, replicate, sym, ap, ◌∙◌, mod-lt, mod-eq_of_lt, arith}
+use Rattle.std.proofs.Common.{◌≡◌, ℕ, suc, ◌+◌, ◌-◌, ◌*◌, ◌%◌, ◌<◌, ◌≤◌, List, ◌∷◌, ◌++◌, take, drop, replicate, ap, ◌∙◌, mod-lt, mod-eq_of_lt, arith}
 use native.Mathlib.Nat.{zero-mod}
 use Rattle.std.proofs.lemmas.List.{length-append, length-drop, take_at, take-replicate, drop-take, take-take}
 use Rattle.field.specs.Field.{p}
@@ -46,11 +46,4 @@ module _ {n c w : ℕ} {F : List ℕ → List ℕ} (sound : Sound n c w F) where
           let low : r < 2 * w = next_fair.room in
           rw (take_at last (drop (mm - 0) st) (c + 2 * w) next_fair.holds.long, mod-eq_of_lt low) (rw (z, er) at e)
 
-cut_front : (c w : ℕ) (s : List ℕ) → cut c w (take (c + 2 * w) s) ≡ cut c w s
-cut_front c w s = ap (take w) (drop-take c (2 * w) s) ∙ take-take w (2 * w) (drop c s) (omega arith)
-
 -- the digest as it is copied out of the words
-pub cut_of : (c w ci wi : ℕ) (words out front : List ℕ) → ci ≡ c → wi ≡ w → out ≡ take (ci + wi - ci) (drop ci words) → take (c + 2 * w) words ≡ front → out ≡ cut c w front
-cut_of c w ci wi words out front ec ew e ef =
-    let n : ci + wi - ci ≡ w = omega arith in
-    (rw (n, ec) at e) ∙ sym (cut_front c w words) ∙ ap (cut c w) ef

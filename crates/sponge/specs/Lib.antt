@@ -1,4 +1,3 @@
 pub mod Digests
 pub mod Streams
 pub mod Calls
-pub mod Overlays

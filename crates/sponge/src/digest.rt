@@ -1,9 +1,10 @@
-ghost use Rattle.std.specs.Prelude.{◌≡◌, length};
+ghost use Rattle.std.specs.Prelude.{◌≡◌};
 ghost use Rattle.field.specs.Field.{Elements};
 ghost use Rattle.kinds.specs.Denials.{told};
 ghost use Rattle.sponge.specs.Digests.{digest_of, start_of};
 ghost use Rattle.sponge.specs.Calls.{digest_call};
 
+use crate::hash::Digest;
 use crate::sponge::Sponge;
 use field::element::Element;
 use kinds::denial::Denial;
@@ -25,14 +26,13 @@ pub fn start_for<K: Kind>(length: usize) -> Element
 }
 
 // The digest of a record that is known to be one.
-pub fn digest_elements<K: Kind>(kind: &K, words: &[u64], out: &mut [u64])
-    requires each { Elements words.now }
-    requires long { length out.old ≡ K.DIGEST }
-    ensures { out.new ≡ digest_of K.CAPACITY K.DIGEST K.mapping words.now }
+pub fn digest_elements<K: Kind>(kind: &K, words: &[u64]) -> Digest<K>
+    requires { Elements words.now }
+    ensures { result ≡ digest_of K.CAPACITY K.DIGEST K.mapping words.now }
 {
     let mut sponge = Sponge::start::<K>(start_for::<K>(words.len()));
     sponge.absorb_all(kind, words);
-    sponge.finish(kind, out);
+    sponge.finish(kind)
 }
 
 // The digest of a record.
@@ -46,6 +46,6 @@ pub fn digest<K: Kind>(kind: &K, words: &[u64], out: &mut [u64]) -> Result<(), D
         return Err(Denial::BadBuffer);
     }
     admit(0, words)?;
-    digest_elements(kind, words, out);
+    out.copy_from_slice(digest_elements(kind, words).words());
     Ok(())
 }

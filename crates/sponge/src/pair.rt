@@ -1,4 +1,4 @@
-ghost use Rattle.std.specs.Prelude.{◌≡◌, ◌+◌, ◌≤◌, [], ◌∷◌, ◌++◌, length, IfOk};
+ghost use Rattle.std.specs.Prelude.{◌≡◌, ◌+◌, ◌*◌, ◌≤◌, [], ◌∷◌, ◌++◌, length, take, replicate, IfOk};
 ghost use Rattle.field.specs.Field.{Elements};
 ghost use Rattle.kinds.specs.Answers.{answer};
 ghost use Rattle.kinds.specs.Kinds.{State};
@@ -6,35 +6,36 @@ ghost use Rattle.kinds.specs.Words.{not_elements};
 ghost use Rattle.kinds.specs.Denials.{told};
 ghost use Rattle.sponge.specs.Digests.{two_to_one};
 ghost use Rattle.sponge.specs.Calls.{pair_answer, pair_call};
-ghost use Rattle.sponge.specs.Overlays.{overlaid};
 
+use crate::hash::Digest;
 use kinds::denial::Denial;
 use kinds::kind::Kind;
 use kinds::words::admit;
 
-// Copies words over those from `at` on.
-pub fn overlay(all: &mut [u64], at: usize, words: &[u64])
-    requires { at + length words.now ≤ length all.old }
-    ensures { all.new ≡ overlaid all.old at words.now }
+// The state that a pair of digests is hashed from: zeros, and then both. What is left of the sixteen words is zeros.
+fn joined<K: Kind>(a: &[u64], b: &[u64]) -> [u64; 16]
+    requires a { State K.DIGEST a.now }
+    requires b { State K.DIGEST b.now }
+    ensures { take (K.CAPACITY + 2 * K.DIGEST) result ≡ replicate K.CAPACITY 0 ++ (a.now ++ b.now) }
 {
-    let end = at + words.len();
-    all[at..end].copy_from_slice(words);
+    let c = K::CAPACITY;
+    let w = K::DIGEST;
+    let mut words = [0u64; 16];
+    words[c..c + w].copy_from_slice(a);
+    words[c + w..c + 2 * w].copy_from_slice(b);
+    words
 }
 
 // The two-to-one hash of what is known to be two digests.
-pub fn compress<K: Kind>(kind: &K, a: &[u64], b: &[u64], out: &mut [u64])
+pub fn compress<K: Kind>(kind: &K, a: &[u64], b: &[u64]) -> Digest<K>
     requires a { State K.DIGEST a.now }
     requires b { State K.DIGEST b.now }
-    requires out { length out.old ≡ K.DIGEST }
-    ensures { out.new ≡ two_to_one K.CAPACITY K.DIGEST K.mapping a.now b.now }
+    ensures { result ≡ two_to_one K.CAPACITY K.DIGEST K.mapping a.now b.now }
 {
-    let mut words = [0u64; 16];
+    let mut words = joined::<K>(a, b);
     let state = &mut words[..K::state_len()];
-    let (front, second) = state.split_at_mut(K::CAPACITY + K::DIGEST);
-    front[K::CAPACITY..].copy_from_slice(a);
-    second.copy_from_slice(b);
     kind.mix(state);
-    out.copy_from_slice(&state[K::CAPACITY..][..K::DIGEST]);
+    Digest::cut(state)
 }
 
 // Denies words of which one is no element, with its index counted through both parts.
@@ -66,6 +67,6 @@ pub fn two_to_one<K: Kind>(kind: &K, a: &[u64], b: &[u64], out: &mut [u64]) -> R
     ensures { (told result, out.new) ≡ pair_call K.CAPACITY K.DIGEST K.mapping a.now b.now out.old }
 {
     admit_pair(K::DIGEST, a, b, out)?;
-    compress(kind, a, b, out);
+    out.copy_from_slice(compress(kind, a, b).words());
     Ok(())
 }

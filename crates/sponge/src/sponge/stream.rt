@@ -1,15 +1,12 @@
-ghost use Rattle.std.specs.Prelude.{◌≡◌, ℕ, ◌+◌, ◌*◌, ◌%◌, ◌<◌, length};
+ghost use Rattle.std.specs.Prelude.{◌≡◌, ℕ, ◌+◌, ◌*◌, ◌%◌, ◌<◌};
 ghost use Rattle.field.specs.Field.{p, Elements};
-ghost use Rattle.kinds.specs.Kinds.{State};
 ghost use Rattle.sponge.specs.Digests.{filling};
 ghost use Rattle.sponge.specs.Streams.{fed, fed_all, begun, finished, held, Fair};
 
+use crate::hash::Digest;
 use crate::sponge::Sponge;
 use field::element::Element;
 use kinds::kind::Kind;
-
-// The place in a block that has no element yet: a record that ends there is not filled up.
-const BLOCK_EDGE: usize = 0;
 
 // One element into a state that has `at` elements of its block; how many it has then.
 fn overwrite<K: Kind>(kind: &K, state: &mut [u64], at: usize, word: u64) -> usize
@@ -61,7 +58,8 @@ impl Sponge {
     {
         let r = K::rate();
         let at = self.filled % r;
-        if at == BLOCK_EDGE {
+        // A record that ends where a block does is not filled up.
+        if at == 0 {
             return;
         }
         self.absorb(kind, Element { word: 1 });
@@ -70,14 +68,11 @@ impl Sponge {
         }
     }
 
-    // Fills the last block up, and writes the digest.
-    pub fn finish<K: Kind>(&mut self, kind: &K, out: &mut [u64])
-        requires { length out.old ≡ K.DIGEST }
-        ensures { out.new ≡ finished K.CAPACITY K.DIGEST K.mapping (held K.CAPACITY K.DIGEST self.old) }
+    // Fills the last block up, and gives the digest.
+    pub fn finish<K: Kind>(&mut self, kind: &K) -> Digest<K>
+        ensures { result ≡ finished K.CAPACITY K.DIGEST K.mapping (held K.CAPACITY K.DIGEST self.old) }
     {
         self.fill_up(kind);
-        let c = K::CAPACITY;
-        let w = K::DIGEST;
-        out.copy_from_slice(&self.state[c..c + w]);
+        Digest::cut(&self.state[..K::state_len()])
     }
 }

@@ -10,5 +10,5 @@ returns g c =
     let xs = c.args.words.now in
     c.finish.ensures ∙ ap (finished k.CAPACITY k.DIGEST k.mapping) c.absorb_all.ensures
     ∙ ap (λ (s : Stream). finished k.CAPACITY k.DIGEST k.mapping (fed_all k.CAPACITY k.DIGEST k.mapping s xs)) c.start-sponge.ensures
-    ∙ streams_to_digests g.met.K.Kind.sound c.start_for.result.word xs c.start_for.result.below c.requires.each
+    ∙ streams_to_digests g.met.K.Kind.sound c.start_for.result.word xs c.start_for.result.below c.requires
     ∙ ap (λ n. record_digest k.CAPACITY k.DIGEST k.mapping n xs) c.start_for.ensures

@@ -1,15 +1,20 @@
-use Rattle.sponge.proofs.Pairs.{laid_state, laid_hash}
+use Rattle.std.proofs.Common.{ap, ◌∙◌}
+use Rattle.sponge.specs.Digests.{cut}
+use Rattle.sponge.proofs.Pairs.{joined_state}
 use Rattle.sponge.proofs.pair.compress.Goals as goal
 
 pub mix-requires : goal.mix-requires
 mix-requires g c =
     let k = g.K.Kind in
-    laid_state k.CAPACITY k.DIGEST c.state_len.result c.CAPACITY.result c.DIGEST.result c.CAPACITY-2.result c.split_at_mut-front.result.0.now c.args.a.now c.args.b.now c.copy_from_slice.new.self c.copy_from_slice-2.new.self
-    c.CAPACITY.ensures c.DIGEST.ensures c.CAPACITY-2.ensures c.state_len.ensures g.met.K.Kind.sound.m_small c.split_at_mut-front.ensures.front c.copy_from_slice.ensures.after c.copy_from_slice-2.ensures.after c.requires.a c.requires.b
+    rw (c.state_len.ensures, c.joined-words.ensures) (joined_state k.CAPACITY k.DIGEST c.args.a.now c.args.b.now c.requires.a c.requires.b)
+
+pub cut-requires : goal.cut-requires
+cut-requires g c =
+    let k = g.K.Kind in
+    let sound = g.met.K.Kind.sound in
+    rw (c.mix.ensures, c.state_len.ensures, c.joined-words.ensures) (sound.keeps _ (joined_state k.CAPACITY k.DIGEST c.args.a.now c.args.b.now c.requires.a c.requires.b))
 
 pub returns : goal.returns
 returns g c =
     let k = g.K.Kind in
-    laid_hash k.CAPACITY k.DIGEST c.state_len.result c.CAPACITY.result c.DIGEST.result c.CAPACITY-2.result c.split_at_mut-front.result.0.now c.args.a.now c.args.b.now c.copy_from_slice.new.self c.copy_from_slice-2.new.self
-    c.CAPACITY.ensures c.DIGEST.ensures c.CAPACITY-2.ensures c.state_len.ensures g.met.K.Kind.sound.m_small c.split_at_mut-front.ensures.front c.copy_from_slice.ensures.after c.copy_from_slice-2.ensures.after
-    c.DIGEST-2.result c.CAPACITY-3.result c.mix.new.state _ g.met.K.Kind.sound c.requires.a c.requires.b c.DIGEST-2.ensures c.CAPACITY-3.ensures c.mix.ensures c.copy_from_slice-3.ensures.after
+    c.cut.ensures ∙ ap (cut k.CAPACITY k.DIGEST) (rw (c.state_len.ensures, c.joined-words.ensures) at c.mix.ensures)

@@ -20,4 +20,4 @@ returns g c =
     let n = c.args.self.now.filled in
     let some : 0 < c.rate-r.result = omega (arith, g.met.K.Kind.sound.w_some) in
     let low : n % c.rate-r.result < c.rate-r.result = mod-lt n some in
-    filled_up k.CAPACITY k.DIGEST k.mapping (held k.CAPACITY k.DIGEST c.args.self.now) (held k.CAPACITY k.DIGEST c.absorb.new.self) (held k.CAPACITY k.DIGEST c.loop.self) n (n % c.rate-r.result) c.loop.counter refl (ap (λ (r : ℕ). n % r) c.rate-r.ensures) c.if-at-eq-BLOCK_EDGE.false (omega arith) c.absorb.ensures c.loop.invariant
+    filled_up k.CAPACITY k.DIGEST k.mapping (held k.CAPACITY k.DIGEST c.args.self.now) (held k.CAPACITY k.DIGEST c.absorb.new.self) (held k.CAPACITY k.DIGEST c.loop.self) n (n % c.rate-r.result) c.loop.counter refl (ap (λ (r : ℕ). n % r) c.rate-r.ensures) c.if-at-eq0.false (omega arith) c.absorb.ensures c.loop.invariant
