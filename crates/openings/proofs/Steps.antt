@@ -4,9 +4,7 @@ use Rattle.std.proofs.lemmas.List.{length-append, length-drop, length-take-le, d
 use Rattle.std.proofs.lemmas.Bool.{cases_lt}
 use Rattle.std.proofs.lemmas.Slice.{take-put_mid}
 use borrow.Rule.Slice.PartMut.{put_mid}
-use Rattle.kinds.specs.Kinds.{State, Sound}
 use Rattle.openings.specs.Opening.{is_right, part_at, paired, flat, hash_of, own_at, pair_at, pairs_below}
-use Rattle.openings.proofs.Digests.{own_state, part_state, paired_digests, flat_state}
 
 -- parts of one length in a row
 pub within : (k depth level at n : ℕ) → at ≡ level * k → n ≡ depth * k → level < depth → at + k ≤ n
@@ -48,23 +46,16 @@ pub own_more : (c w : ℕ) (F : List ℕ → List ℕ) (place : ℕ) (bottom pat
     sibling ≡ part_at w level path → next ≡ hash_of c w F (paired r own sibling) → next ≡ own_at c w F place bottom path (level + 1)
 own_more c w F place bottom path own next sibling level r er eo es en = rw (add-one level, en, es, er, eo)
 
-module _ {n c w : ℕ} {F : List ℕ → List ℕ} (sound : Sound n c w F) (place depth : ℕ) (bottom path : List ℕ) (low : State w bottom) (fits : State (depth * w) path) where
-  pub own_now : (own : List ℕ) (level : ℕ) → own ≡ own_at c w F place bottom path level → level ≤ depth → State w own
-  own_now own level e h = rw e (own_state sound place depth bottom path low fits level h)
-
-  pub part_now : (level : ℕ) (sibling tail : List ℕ) → Cut w depth level path sibling tail → State w sibling
-  part_now level sibling tail cut = rw cut.here (part_state w depth level path fits cut.below)
-
-  pub pairs_more : (own sibling tail pairs next : List ℕ) (level to k : ℕ) (r : Bool) → to ≡ level * (2 * w) → length pairs ≡ depth * (2 * w) → Cut w depth level path sibling tail → r ≡ is_right place level → own ≡ own_at c w F place bottom path level →
-      take (level * (2 * w)) pairs ≡ pairs_below c w F place bottom path level → next ≡ flat (paired r own sibling) → take ((level + 1) * (2 * w)) (put_mid to k pairs next) ≡ pairs_below c w F place bottom path (level + 1)
-  pairs_more own sibling tail pairs next level to k r et n cut er eo ep en =
-      let h = cut.below in
-      let long : length next ≡ 2 * w = ap length en ∙ (flat_state w _ (paired_digests w r own _ (own_now own level eo (omega arith)) (part_now level sibling tail cut))).long in
-      let in-room = within (2 * w) depth level to (length pairs) et n h in
-      let front = take-put_mid to k pairs next (to + 2 * w) (omega arith) (omega arith) in
-      let before : take to pairs ≡ pairs_below c w F place bottom path level = rw et ep in
-      let last : next ≡ flat (pair_at c w F place bottom path level) = rw (en, cut.here, er, eo) in
-      rw (← times_more (2 * w) level to et) (front ∙ rw (before, last, add-one level))
+pub pairs_more : (c w : ℕ) (F : List ℕ → List ℕ) (place depth : ℕ) (bottom path own sibling tail pairs next : List ℕ) (level to k : ℕ) (r : Bool) → to ≡ level * (2 * w) → length pairs ≡ depth * (2 * w) → length next ≡ 2 * w → Cut w depth level path sibling tail →
+    r ≡ is_right place level → own ≡ own_at c w F place bottom path level → take (level * (2 * w)) pairs ≡ pairs_below c w F place bottom path level → next ≡ flat (paired r own sibling) →
+    take ((level + 1) * (2 * w)) (put_mid to k pairs next) ≡ pairs_below c w F place bottom path (level + 1)
+pairs_more c w F place depth bottom path own sibling tail pairs next level to k r et n long cut er eo ep en =
+    let h = cut.below in
+    let in-room = within (2 * w) depth level to (length pairs) et n h in
+    let front = take-put_mid to k pairs next (to + 2 * w) (omega arith) (omega arith) in
+    let before : take to pairs ≡ pairs_below c w F place bottom path level = rw et ep in
+    let last : next ≡ flat (pair_at c w F place bottom path level) = rw (en, cut.here, er, eo) in
+    rw (← times_more (2 * w) level to et) (front ∙ rw (before, last, add-one level))
 
 -- the front of an array that is long enough
 pub front_long : (m n : ℕ) (xs : List ℕ) → m ≡ n → n ≤ length xs → length (take m xs) ≡ n

@@ -13,6 +13,6 @@ invariant-loop-level g l =
       size : l.level-iterator.iter.size ≡ k.DIGEST;
       rest : l.level-iterator.iter.rest.now ≡ drop (n * k.DIGEST) l.path;
       level : n ≤ l.site.depth.levels;
-      own : l.own ≡ own_at k.CAPACITY k.DIGEST k.mapping l.site.place l.initial.own l.path n;
-      pairs : take (n * (2 * k.DIGEST)) l.pairs ≡ pairs_below k.CAPACITY k.DIGEST k.mapping l.site.place l.initial.own l.path n;
+      own : l.own ≡ own_at k.CAPACITY k.DIGEST k.mapping l.site.place l.fn.leaf l.path n;
+      pairs : take (n * (2 * k.DIGEST)) l.pairs ≡ pairs_below k.CAPACITY k.DIGEST k.mapping l.site.place l.fn.leaf l.path n;
     }
