@@ -1,18 +1,15 @@
 -- What two openings that are admitted have, and the causes of a refusal in a row.
-use Rattle.std.proofs.Common.{◌≡◌, ℕ, ◌*◌, false, List, [], ◌∷◌, ◌++◌, length, Option, sym, ap, ◌∙◌, arith}
-use Rattle.std.proofs.lemmas.Bool.{le-ltb}
-use Rattle.field.specs.Field.{Elements}
+use Rattle.std.proofs.Common.{◌≡◌, ℕ, ◌*◌, List, [], ◌∷◌, ◌++◌, length, Option, sym, ap, ◌∙◌}
 use Rattle.kinds.specs.Answers.{Answer, granted, denied, Cause, answer}
-use Rattle.kinds.specs.Words.{first_bad, not_elements}
-use Rattle.kinds.proofs.FirstBad.{first_is}
-use Rattle.model.proofs.Causes.{NoneThere, none_there, all_elements}
+use Rattle.kinds.specs.Words.{not_elements}
+use Rattle.model.proofs.Causes.{NoneThere, none_there, all_elements, right_buffer}
 use Rattle.model.specs.Calls.{too_deep, no_place}
 use Rattle.kinds.specs.Kinds.{State}
 use Rattle.kinds.specs.Permuting.{bad_buffer}
 use Rattle.openings.specs.Opening.{words_of}
 use Rattle.openings.specs.Checks.{bad_claim}
 use Rattle.openings.proofs.Tests.{each_left, each_right}
-use Rattle.openings.proofs.Admitted.{Fine, right_buffer}
+use Rattle.openings.proofs.Admitted.{Fine}
 use Rattle.openings.proofs.Causes.{answer_front, answer_past}
 use Rattle.finder.specs.Findings.{Shown, nothing, handed_causes, unless_denied, found, verdict, find_call}
 
@@ -47,11 +44,6 @@ none_front (x ∷ xs) ys none = (none.0, none_front xs ys none.1)
 pub none_back : (xs ys : List Cause) → NoneThere (xs ++ ys) → NoneThere ys
 none_back [] ys none = none
 none_back (x ∷ xs) ys none = none_back xs ys none.1
-
-pub good_elements : (xs : List ℕ) → Elements xs → (not_elements xs).0 ≡ false
-good_elements xs e =
-    let all = first_is xs (length xs) (omega arith) e (λ h. absurd (omega arith)) in
-    le-ltb (first_bad xs) (length xs) (omega arith)
 
 -- the refusals of numbers and lengths come first
 module _ (c w : ℕ) (F : List ℕ → List ℕ) (root : List ℕ) (depth place : ℕ) (claim1 : Option (List ℕ)) (path1 : List ℕ) (claim2 : Option (List ℕ)) (path2 out : List ℕ) where

@@ -1,29 +1,15 @@
 -- What the finder's steps come to.
-use Rattle.std.proofs.Common.{◌≡◌, ℕ, zero, suc, ◌+◌, ◌*◌, ◌<◌, ◌≤◌, Bool, true, false, not, eqb, List, length, take, drop, Option, sym, refl, ap, ◌∙◌, ⊎_elim, mul-le-mul_right, suc-mul, zero-mul, arith}
-use Rattle.std.proofs.lemmas.Bool.{cases_Bool, cases_eq}
-use Rattle.std.proofs.lemmas.List.{length-append, length-drop, length-take-le, take_all, drop_at, take-append-le, drop-append-le}
-use Rattle.std.proofs.lemmas.Bool.Decides.{Decides-eqb}
-use Rattle.std.proofs.lemmas.Slice.Eq.{slice_eq-Decides}
-use lib.Pointwise.{pointwise}
+use Rattle.std.proofs.Common.{◌≡◌, ℕ, zero, suc, ◌+◌, ◌*◌, ◌<◌, ◌≤◌, Bool, List, length, drop, Option, sym, refl, ap, ◌∙◌, ⊎_elim, arith}
+use Rattle.std.proofs.lemmas.Bool.{cases_Bool}
+use Rattle.std.proofs.lemmas.List.{length-drop, length-take-le}
 use Rattle.kinds.specs.Kinds.{State, Sound}
 use Rattle.kinds.specs.Answers.{Answer, granted, answer}
 use Rattle.model.specs.Trees.{leaf}
 use Rattle.openings.specs.Opening.{same, part_at, flat, pair_at, pairs_below, reaches}
 use Rattle.openings.proofs.Digests.{leaf_state, pair_digests, flat_state}
-use Rattle.openings.proofs.Tests.{same_result}
+use Rattle.model.proofs.Rows.{row_piece}
 use Rattle.openings.proofs.Admitted.{Fine}
 use Rattle.finder.specs.Findings.{Shown, highest, show_at, shows, alike, verdict_causes, words_at, found, judged_call}
-
-not_not : (b : Bool) → not (not b) ≡ b
-not_not true = refl
-not_not false = refl
-
--- words that the code finds to differ, or not to
-same_words : (xs ys : List ℕ) → pointwise eqb xs ys ≡ same xs ys
-same_words xs ys = same_result xs ys (pointwise eqb xs ys) (slice_eq-Decides Decides-eqb xs ys _ refl)
-
-pub words_told : (xs ys : List ℕ) (r : Bool) → r ≡ not (pointwise eqb xs ys) → not r ≡ same xs ys
-words_told xs ys r e = rw (e, same_words xs ys) (not_not (same xs ys))
 
 pub highest_le : (test : ℕ → Bool) (n : ℕ) → highest test n ≤ n
 highest_le test zero = omega arith
@@ -43,13 +29,6 @@ shows_agree q1 q2 p1 p2 claim1 claim2 out depth e f =
     let n : highest (λ level. same (q1 level) (q2 level)) depth ≡ highest (λ level. same (p1 level) (p2 level)) depth = highest_agree (λ level. same (q1 level) (q2 level)) (λ level. same (p1 level) (p2 level)) depth (λ k h. rw (e k h, f k h)) in
     ap (show_at q1 q2 claim1 claim2 out) n ∙ show_agree q1 q2 p1 p2 claim1 claim2 out depth _ (highest_le (λ level. same (p1 level) (p2 level)) depth) e f
 
--- a part within a row of parts
-pub part_room : (k level n : ℕ) → level < n → level * k + k ≤ n * k
-part_room k level n h =
-    let a = suc-mul level k in
-    let b : suc level * k ≤ n * k = mul-le-mul_right k (omega arith) in
-    omega arith
-
 pub part_long : (k level : ℕ) (words : List ℕ) → level * k + k ≤ length words → length (part_at k level words) ≡ k
 part_long k level words h = length-take-le k (drop (level * k) words) (let d = length-drop (level * k) words in omega arith)
 
@@ -58,30 +37,9 @@ module _ {n c w : ℕ} {F : List ℕ → List ℕ} (s : Sound n c w F) (place de
   pair_long : (level : ℕ) → level < depth → length (flat (pair_at c w F place bottom path level)) ≡ 2 * w
   pair_long level h = (flat_state w _ (pair_digests s place depth bottom path low fits level h)).long
 
-  pub pairs_long : (m : ℕ) → m ≤ depth → length (pairs_below c w F place bottom path m) ≡ m * (2 * w)
-  pairs_long zero h = sym (zero-mul (2 * w))
-  pairs_long (suc m) h =
-      length-append (pairs_below c w F place bottom path m) (flat (pair_at c w F place bottom path m)) ∙ (let a = pairs_long m (omega arith) in let b = pair_long m (omega arith) in let d = suc-mul m (2 * w) in omega arith)
-
-  pub pair_in : (m level : ℕ) → m ≤ depth → level < m → part_at (2 * w) level (pairs_below c w F place bottom path m) ≡ flat (pair_at c w F place bottom path level)
-  pair_in zero level h l = absurd (omega arith)
-  pair_in (suc m) level h l =
-      let front = pairs_below c w F place bottom path m in
-      let back = flat (pair_at c w F place bottom path m) in
-      let n1 = pairs_long m (omega arith) in
-      let n2 = pair_long m (omega arith) in
-      ⊎_elim
-      (λ e.
-      let z : length front ≡ level * (2 * w) = n1 ∙ ap (λ (i : ℕ). i * (2 * w)) (sym e) in
-      ap (take (2 * w)) (drop_at front back (level * (2 * w)) z) ∙ take_all (2 * w) back (omega arith) ∙ ap (λ (i : ℕ). flat (pair_at c w F place bottom path i)) (sym e))
-      (λ ne.
-      let lt : suc level ≤ m = omega arith in
-      let d = suc-mul level (2 * w) in
-      let b : suc level * (2 * w) ≤ m * (2 * w) = mul-le-mul_right (2 * w) lt in
-      let x : level * (2 * w) ≤ length front = omega arith in
-      let y : 2 * w ≤ length (drop (level * (2 * w)) front) = let g = length-drop (level * (2 * w)) front in omega arith in
-      ap (take (2 * w)) (drop-append-le (level * (2 * w)) front back x) ∙ take-append-le (2 * w) (drop (level * (2 * w)) front) back y ∙ pair_in m level (omega arith) (omega arith))
-      (cases_eq level m)
+  pub pair_in : (level : ℕ) → level < depth → part_at (2 * w) level (pairs_below c w F place bottom path depth) ≡ flat (pair_at c w F place bottom path level)
+  pair_in level h =
+      row_piece (2 * w) depth (pairs_below c w F place bottom path) (λ m. flat (pair_at c w F place bottom path m)) refl (λ m. refl) pair_long depth level (omega arith) h
 
 -- what is shown from the pairs that two climbs left is what the openings show
 pub compared : {n c w : ℕ} {F : List ℕ → List ℕ} → Sound n c w F → (root : List ℕ) (depth place : ℕ) (claim1 : Option (List ℕ)) (path1 : List ℕ) (claim2 : Option (List ℕ)) (path2 out : List ℕ) →
@@ -92,8 +50,8 @@ pub compared : {n c w : ℕ} {F : List ℕ → List ℕ} → Sound n c w F → (
     ◌≡◌ {A = Answer × Shown × List ℕ} (granted, x, left) (judged_call c w F root depth place claim1 path1 claim2 path2 out)
 compared {n} {c} {w} {F} s root depth place claim1 path1 claim2 path2 out o1 o2 one two together first second left x k e1 e2 ea f1 f2 ek j f =
     let agreed : answer (verdict_causes (reaches c w F root depth place claim1 path1) (reaches c w F root depth place claim2 path2) (alike claim1 path1 claim2 path2)) ≡ granted = sym (rw (e1, e2, ea) at j) in
-    let g1 : (level : ℕ) → level < depth → part_at k level first ≡ words_at c w F place claim1 path1 level = λ level h. rw (f1, ek) (pair_in s place depth (leaf c w F claim1) path1 (leaf_state s claim1 o1.each) o1.path_fits depth level (omega arith) h) in
-    let g2 : (level : ℕ) → level < depth → part_at k level second ≡ words_at c w F place claim2 path2 level = λ level h. rw (f2, ek) (pair_in s place depth (leaf c w F claim2) path2 (leaf_state s claim2 o2.each) o2.path_fits depth level (omega arith) h) in
+    let g1 : (level : ℕ) → level < depth → part_at k level first ≡ words_at c w F place claim1 path1 level = λ level h. rw (f1, ek) (pair_in s place depth (leaf c w F claim1) path1 (leaf_state s claim1 o1.each) o1.path_fits level h) in
+    let g2 : (level : ℕ) → level < depth → part_at k level second ≡ words_at c w F place claim2 path2 level = λ level h. rw (f2, ek) (pair_in s place depth (leaf c w F claim2) path2 (leaf_state s claim2 o2.each) o2.path_fits level h) in
     let all : ◌≡◌ {A = Shown × List ℕ} (x, left) (found c w F depth place claim1 path1 claim2 path2 out) =
     f ∙ shows_agree (λ level. part_at k level first) (λ level. part_at k level second) (words_at c w F place claim1 path1) (words_at c w F place claim2 path2) claim1 claim2 out depth g1 g2 in
     rw (agreed, ← all)

@@ -1,21 +1,21 @@
 -- The finder shows a clash exactly where there is one.
 use Rattle.std.proofs.Common.{◌≡◌, ℕ, zero, suc, ◌*◌, ◌<◌, ◌≤◌, Bool, true, false, ◌≢◌, List, ◌++◌, length, Some, None, Option, sym, refl, ap, ◌∙◌, ⊎_elim, arith}
-use Rattle.std.proofs.lemmas.Bool.{cases_Bool, cases_eq, both_ways, and_from, and_parts, eq-eqb}
+use Rattle.std.proofs.lemmas.Bool.{cases_Bool, cases_eq, both_ways, and_from, and_parts, not-false}
 use Rattle.kinds.specs.Kinds.{Sound}
 use Rattle.kinds.specs.Answers.{Answer, granted, denied, if_granted}
 use Rattle.kinds.specs.Permuting.{bad_buffer}
 use Rattle.sponge.proofs.Parts.{each_append}
 use Rattle.model.specs.Calls.{too_deep, no_place}
 use Rattle.model.specs.Trees.{leaf}
-use Rattle.model.proofs.Causes.{NoneThere, none_there, granted_by}
+use Rattle.model.proofs.Causes.{NoneThere, none_there, granted_by, good_elements, good_buffer}
 use Rattle.openings.specs.Opening.{same, words_of, is_right, part_at, Pair, flat, own_at, pair_at, reaches}
 use Rattle.openings.specs.Checks.{bad_claim, check_causes, check_answer}
 use Rattle.openings.proofs.Digests.{same_decides, leaf_state, pair_digests, from_flat, paired_parts}
-use Rattle.openings.proofs.Admitted.{Fine, admitted_fine, not_false}
+use Rattle.openings.proofs.Admitted.{Fine, admitted_fine}
 use Rattle.finder.specs.Findings.{Shown, nothing, same_claim, alike, highest, claims_show, show_at, handed_causes, words_at, found, verdict, find_answer, find_call}
 use Rattle.finder.specs.Law.{AlikeFrom, Real, BothAccepted, Finds, ClashLaw}
 use Rattle.finder.proofs.Levels.{highest_none, highest_some, paths_alike}
-use Rattle.finder.proofs.Admitted.{BothFine, both_fine, none_front, none_back, good_elements}
+use Rattle.finder.proofs.Admitted.{BothFine, both_fine, none_front, none_back}
 use Rattle.openings.proofs.Causes.{answer_past}
 
 -- claims and paths that are alike
@@ -142,8 +142,8 @@ module _ {n c w : ℕ} {F : List ℕ → List ℕ} (s : Sound n c w F) (root : L
       let sizes = given.1.1.1.1 in
       let one = check_granted w root depth place claim1 path1 given.0 given.1.0 given.1.1.0 sizes.0 sizes.1.0 fine.one in
       let two = check_granted w root depth place claim2 path2 given.0 given.1.0 given.1.1.1.0 sizes.0 sizes.1.1.0 fine.two in
-      let r1 = not_false (reaches c w F root depth place claim1 path1) judged.0 in
-      let r2 = not_false (reaches c w F root depth place claim2 path2) judged.1.0 in
+      let r1 = not-false (reaches c w F root depth place claim1 path1) judged.0 in
+      let r2 = not-false (reaches c w F root depth place claim2 path2) judged.1.0 in
       record {
         fine = fine;
         both = record {
@@ -163,7 +163,7 @@ module _ {n c w : ℕ} {F : List ℕ → List ℕ} (s : Sound n c w F) (root : L
       let n2 = none_there (check_causes w root depth place claim2 path2) a2.0 in
       let o1 = admitted_fine w root depth claim1 path1 place a1.0 in
       let o2 = admitted_fine w root depth claim2 path2 place a2.0 in
-      let roomy : (bad_buffer (4 * w) out).0 ≡ false = rw (eq-eqb (length out) (4 * w) ol) in
+      let roomy : (bad_buffer (4 * w) out).0 ≡ false = good_buffer (4 * w) out ol in
       let words = good_elements (root ++ (words_of claim1 ++ (path1 ++ (words_of claim2 ++ path2)))) (each_append root _ o1.root_fits.each (each_append (words_of claim1) _ o1.each (each_append path1 _ o1.path_fits.each (each_append (words_of claim2) path2 o2.each o2.path_fits.each)))) in
       let handed = handed_causes w root depth place claim1 path1 claim2 path2 out in
       let judging = verdict c w F root depth place claim1 path1 claim2 path2 in

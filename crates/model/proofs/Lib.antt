@@ -6,4 +6,5 @@ pub mod Steps
 pub mod Runs
 pub mod Heaps
 pub mod Order
+pub mod Rows
 pub mod Paths

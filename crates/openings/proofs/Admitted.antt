@@ -1,24 +1,15 @@
 -- What an opening that is admitted has.
-use Rattle.std.proofs.Common.{◌≡◌, ℕ, ◌*◌, ◌≤◌, Bool, true, false, not, eqb, List, [], ◌∷◌, ◌++◌, length, take, replicate, Option, sym, refl, ap, ◌∙◌, mul-le-mul, arith}
-use Rattle.std.proofs.lemmas.Bool.{eqb-true}
+use Rattle.std.proofs.Common.{◌≡◌, ℕ, ◌*◌, ◌≤◌, false, List, [], ◌∷◌, ◌++◌, length, take, replicate, Option, sym, ap, ◌∙◌, mul-le-mul, arith}
 use Rattle.field.specs.Field.{Elements}
 use Rattle.kinds.specs.Kinds.{State, Sound}
 use Rattle.kinds.specs.Answers.{granted, answer}
 use Rattle.kinds.specs.Words.{not_elements}
-use Rattle.std.proofs.lemmas.List.{append-nil}
+use Rattle.std.proofs.lemmas.List.{append-nil, length-take-le}
 use Rattle.kinds.specs.Permuting.{bad_buffer}
-use Rattle.model.proofs.Causes.{none_there, all_elements}
+use Rattle.model.proofs.Causes.{none_there, all_elements, right_buffer}
 use Rattle.openings.specs.Opening.{words_of}
 use Rattle.openings.specs.Checks.{bad_claim, check_causes, check_answer}
 use Rattle.openings.proofs.Tests.{each_left, each_right}
-use Rattle.openings.proofs.Steps.{front_long}
-
-pub not_false : (b : Bool) → not b ≡ false → b ≡ true
-not_false true e = refl
-not_false false e = sym e
-
-pub right_buffer : (n : ℕ) (s : List ℕ) → (bad_buffer n s).0 ≡ false → length s ≡ n
-right_buffer n s e = eqb-true (length s) n (not_false (eqb (length s) n) e)
 
 pub record Fine (w : ℕ) (root : List ℕ) (depth : ℕ) (claim : Option (List ℕ)) (path : List ℕ) : Type 0 where
   pub root_fits : State w root
@@ -55,11 +46,7 @@ pairs_fit {n} {c} {w} sound depth rate d e =
     let m : depth * rate ≤ 8 * 16 = mul-le-mul d h in
     omega arith
 
--- the front of 16 words that is one digest's, and the front of 128 words that is all pairs'
-module _ {n c w : ℕ} {F : List ℕ → List ℕ} (sound : Sound n c w F) where
-  pub own_front : (wi : ℕ) → wi ≡ w → length (take wi (replicate {A = ℕ} 16 0)) ≡ w
-  own_front wi ew = front_long wi w (replicate 16 0) ew (let m = sound.m_small in omega arith)
-
-  pub pairs_front : (depth rate : ℕ) → depth ≤ 8 → rate ≡ 2 * w → length (take (depth * rate) (replicate {A = ℕ} 128 0)) ≡ depth * (2 * w)
-  pairs_front depth rate d e =
-      front_long (depth * rate) (depth * rate) (replicate 128 0) refl (pairs_fit sound depth rate d e) ∙ ap (λ (k : ℕ). depth * k) e
+-- the front of 128 words that is all pairs'
+pub pairs_front : {n c w : ℕ} {F : List ℕ → List ℕ} → Sound n c w F → (depth rate : ℕ) → depth ≤ 8 → rate ≡ 2 * w → length (take (depth * rate) (replicate {A = ℕ} 128 0)) ≡ depth * (2 * w)
+pairs_front sound depth rate d e =
+    length-take-le (depth * rate) (replicate 128 0) (pairs_fit sound depth rate d e) ∙ ap (λ (k : ℕ). depth * k) e

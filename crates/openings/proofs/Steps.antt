@@ -1,6 +1,6 @@
 -- What the steps of a climb come to.
 use Rattle.std.proofs.Common.{◌≡◌, ℕ, suc, ◌+◌, ◌*◌, ◌<◌, ◌≤◌, Bool, List, ◌++◌, length, take, drop, refl, sym, ap, ⊎_elim, ◌∙◌, mul-le-mul_right, suc-mul, add-one, arith}
-use Rattle.std.proofs.lemmas.List.{length-append, length-drop, length-take-le, drop-drop, take_at, drop_at}
+use Rattle.std.proofs.lemmas.List.{length-append, length-drop, drop-drop, take_at, drop_at}
 use Rattle.std.proofs.lemmas.Bool.{cases_lt}
 use Rattle.std.proofs.lemmas.Slice.{take-put_mid}
 use borrow.Rule.Slice.PartMut.{put_mid}
@@ -56,7 +56,3 @@ pairs_more c w F place depth bottom path own sibling tail pairs next level to k 
     let before : take to pairs ≡ pairs_below c w F place bottom path level = rw et ep in
     let last : next ≡ flat (pair_at c w F place bottom path level) = rw (en, cut.here, er, eo) in
     rw (← times_more (2 * w) level to et) (front ∙ rw (before, last, add-one level))
-
--- the front of an array that is long enough
-pub front_long : (m n : ℕ) (xs : List ℕ) → m ≡ n → n ≤ length xs → length (take m xs) ≡ n
-front_long m n xs e h = rw e (length-take-le n xs h)

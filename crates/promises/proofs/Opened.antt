@@ -1,13 +1,11 @@
 -- The path that a closed lot writes leads the check from the leaf to the root.
 use Rattle.std.proofs.Common.{◌≡◌, ℕ, zero, suc, ◌+◌, ◌*◌, ◌/◌, ◌%◌, ◌^◌, ◌<◌, ◌≤◌, Bool, true, false, eqb, ltb, ◌≢◌, List, [], ◌∷◌, ◌++◌, length, Some, None, Option, sym, refl, ap, ◌∙◌, ap₂, div-one, arith}
 use native.Mathlib.Nat.{div-eq_of_lt}
-use Rattle.std.proofs.lemmas.Bool.{cond_both, eqb-true, eqb-false, eq-eqb, ne_eqb, le-ltb, lt-leb, not_from_true, or_from}
+use Rattle.std.proofs.lemmas.Bool.{cond_both, eqb-true, eqb-false, ne_eqb, le-ltb, lt-leb, or_from}
 use Rattle.field.specs.Field.{Elements}
 use Rattle.kinds.specs.Answers.{Answer, granted, if_granted}
 use Rattle.kinds.specs.Kinds.{State, Sound}
-use Rattle.kinds.specs.Words.{first_bad, not_elements}
 use Rattle.kinds.specs.Permuting.{bad_buffer}
-use Rattle.kinds.proofs.FirstBad.{first_is}
 use Rattle.sponge.specs.Digests.{two_to_one}
 use Rattle.sponge.proofs.Parts.{each_none, each_append}
 use Rattle.model.specs.Calls.{no_place}
@@ -15,26 +13,15 @@ use Rattle.model.specs.Histories.{last_record}
 use Rattle.model.specs.Trees.{leaf, sibling, node, tree_value, path_of}
 use Rattle.model.specs.Lots.{leaf_at, lot_after, history_of}
 use Rattle.model.specs.Closed.{closed_root_answer, open_answer}
-use Rattle.model.proofs.Causes.{granted_by}
+use Rattle.model.proofs.Causes.{granted_by, good_elements, good_buffer}
 use Rattle.model.proofs.Hands.{FairRecord, leaf_state}
 use Rattle.model.proofs.Heaps.{sibling_even, sibling_odd, half_again, closed_laws}
 use Rattle.model.proofs.Paths.{node_state, path_state, path_part}
 use Rattle.model.proofs.Runs.{stands_after}
 use Rattle.openings.specs.Opening.{same, words_of, Pair, paired, is_right, hash_of, own_at}
+use Rattle.openings.proofs.Digests.{same_decides}
 use Rattle.openings.specs.Checks.{bad_claim, check_causes, check_answer, check_call}
 use Rattle.promises.specs.Promises.{Opened}
-
-same_self : (xs : List ℕ) → same xs xs ≡ true
-same_self [] = refl
-same_self (x ∷ xs) = rw (eq-eqb x x refl) (same_self xs)
-
-right_buffer : (n : ℕ) (xs : List ℕ) → length xs ≡ n → (bad_buffer n xs).0 ≡ false
-right_buffer n xs e = not_from_true (eqb (length xs) n) (eq-eqb (length xs) n e)
-
-all_pass : (xs : List ℕ) → Elements xs → (not_elements xs).0 ≡ false
-all_pass xs each =
-    let e = first_is xs (length xs) (omega arith) each (λ never. absurd (omega arith)) in
-    le-ltb (first_bad xs) (length xs) (omega arith)
 
 fair_claim : (r : Option (List ℕ)) → FairRecord r → (bad_claim r).0 ≡ false
 fair_claim None fair = refl
@@ -83,9 +70,9 @@ module _ {n c w : ℕ} {F : List ℕ → List ℕ} (sound : Sound n c w F) (leav
       let path-fits = path_state sound leaves each depth place in
       let words = each_append top (words_of claim ++ path) top-state.each (each_append (words_of claim) path (fair_words claim fair) path-fits.each) in
       let admitted : check_answer w top depth place claim path ≡ granted =
-      granted_by (check_causes w top depth place claim path) (le-ltb 8 depth small, (lt-leb (2 ^ depth) place low, (fair_claim claim fair, (right_buffer w top top-state.long, (right_buffer (depth * w) path path-fits.long, (all_pass (top ++ (words_of claim ++ path)) words, tt)))))) in
+      granted_by (check_causes w top depth place claim path) (le-ltb 8 depth small, (lt-leb (2 ^ depth) place low, (fair_claim claim fair, (good_buffer w top top-state.long, (good_buffer (depth * w) path path-fits.long, (good_elements (top ++ (words_of claim ++ path)) words, tt)))))) in
       let reached : same (own_at c w F place (leaf c w F claim) path depth) top ≡ true =
-      ap (λ (own : List ℕ). same own top) (ap (λ (own : List ℕ). own_at c w F place own path depth) (sym kept) ∙ comes_to_root place low) ∙ same_self top in
+      ap (λ (own : List ℕ). same own top) (ap (λ (own : List ℕ). own_at c w F place own path depth) (sym kept) ∙ comes_to_root place low) ∙ (same_decides top top).1 refl in
       ap₂ (λ (a : Answer) (r : Bool). (a, if_granted a r false)) admitted reached
 
 pub opened : {n c w : ℕ} {F : List ℕ → List ℕ} → Sound n c w F → Opened c w F
@@ -96,9 +83,9 @@ opened {n} {c} {w} {F} sound d ks small place out top low long wide =
     let leaves = leaf_at w l.leaves in
     let each : (k : ℕ) → State w (leaves k) = λ k. rw (now.leaf_kept k) (leaf_state sound (last_record h k) (now.records_fair k)) in
     let shallow : l.depth ≤ 8 = rw now.depth_same now.depth_small in
-    let rooted : closed_root_answer w top ≡ granted = granted_by (bad_buffer w top ∷ []) (right_buffer w top wide, tt) in
+    let rooted : closed_root_answer w top ≡ granted = granted_by (bad_buffer w top ∷ []) (good_buffer w top wide, tt) in
     let given : open_answer w l.depth place out ≡ granted =
-    granted_by (no_place l.depth place ∷ bad_buffer (l.depth * w) out ∷ []) (lt-leb (2 ^ l.depth) place low, (right_buffer (l.depth * w) out long, tt)) in
+    granted_by (no_place l.depth place ∷ bad_buffer (l.depth * w) out ∷ []) (lt-leb (2 ^ l.depth) place low, (good_buffer (l.depth * w) out long, tt)) in
     let laws = closed_laws c w F in
     let root = laws.root_written l top ∙ ap (λ (a : Answer). if_granted a (tree_value c w F l.depth leaves) top) rooted in
     let path = laws.path_written l place out ∙ ap (λ (a : Answer). if_granted a (path_of c w F l.depth leaves place) out) given in

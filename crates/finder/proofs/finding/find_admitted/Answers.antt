@@ -1,7 +1,6 @@
-use Rattle.std.proofs.Common.{◌≡◌, ℕ, ◌*◌, ◌++◌, List, length, take, drop, replicate, ◌∙◌, refl, rules}
-use Rattle.std.proofs.lemmas.List.{take_at}
+use Rattle.std.proofs.Common.{◌≡◌, ℕ, ◌*◌, ◌++◌, List, length, take, drop, replicate, ◌∙◌, rules}
+use Rattle.std.proofs.lemmas.List.{take_at, length-take-le}
 use Rattle.openings.proofs.Admitted.{pairs_front, pairs_fit}
-use Rattle.openings.proofs.Steps.{front_long}
 use Rattle.finder.specs.Findings.{Shown, shown_by, alike, shows}
 use Rattle.openings.specs.Opening.{part_at}
 use Rattle.openings.specs.Sites.{claim_of}
@@ -30,7 +29,7 @@ returns g c =
     let out = c.args.out.now in
     let f = granted_fine g.K.Kind.DIGEST site.root.now site.depth.levels site.place claim1 c.args.first.path.now claim2 c.args.second.path.now out c.requires in
     let n = c.levels-depth.result * k in
-    let front : length (take n (replicate {A = ℕ} 128 0)) ≡ n = front_long n n (replicate 128 0) refl (pairs_fit g.met.K.Kind.sound c.levels-depth.result k c.levels-depth.ensures.shallow c.rate-k.ensures) in
+    let front : length (take n (replicate {A = ℕ} 128 0)) ≡ n = length-take-le n (replicate 128 0) (pairs_fit g.met.K.Kind.sound c.levels-depth.result k c.levels-depth.ensures.shallow c.rate-k.ensures) in
     let one : take n (c.reach-one.new.pairs ++ drop n (replicate {A = ℕ} 128 0)) ≡ c.reach-one.new.pairs = take_at c.reach-one.new.pairs _ n (c.reach-one.auto.pairs ∙ front) in
     let two : take n (c.reach-two.new.pairs ++ drop n (replicate {A = ℕ} 128 0)) ≡ c.reach-two.new.pairs = take_at c.reach-two.new.pairs _ n (c.reach-two.auto.pairs ∙ front) in
     let shown : ◌≡◌ {A = Shown × List ℕ} (shown_by c.show_highest.result, c.show_highest.new.out) (shows (λ level. part_at k level c.reach-one.new.pairs) (λ level. part_at k level c.reach-two.new.pairs) claim1 claim2 out site.depth.levels) =
