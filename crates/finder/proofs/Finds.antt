@@ -1,7 +1,6 @@
 -- What the finder's steps come to.
-use Rattle.std.proofs.Common.{◌≡◌, ℕ, zero, suc, ◌+◌, ◌*◌, ◌<◌, ◌≤◌, Bool, List, length, drop, Option, sym, refl, ap, ◌∙◌, ⊎_elim, arith}
+use Rattle.std.proofs.Common.{◌≡◌, ℕ, zero, suc, ◌*◌, ◌<◌, ◌≤◌, Bool, List, length, Option, sym, refl, ap, ◌∙◌, ⊎_elim, arith}
 use Rattle.std.proofs.lemmas.Bool.{cases_Bool}
-use Rattle.std.proofs.lemmas.List.{length-drop, length-take-le}
 use Rattle.kinds.specs.Kinds.{State, Sound}
 use Rattle.kinds.specs.Answers.{Answer, granted, answer}
 use Rattle.model.specs.Trees.{leaf}
@@ -28,9 +27,6 @@ shows_agree : (q1 q2 p1 p2 : ℕ → List ℕ) (claim1 claim2 : Option (List ℕ
 shows_agree q1 q2 p1 p2 claim1 claim2 out depth e f =
     let n : highest (λ level. same (q1 level) (q2 level)) depth ≡ highest (λ level. same (p1 level) (p2 level)) depth = highest_agree (λ level. same (q1 level) (q2 level)) (λ level. same (p1 level) (p2 level)) depth (λ k h. rw (e k h, f k h)) in
     ap (show_at q1 q2 claim1 claim2 out) n ∙ show_agree q1 q2 p1 p2 claim1 claim2 out depth _ (highest_le (λ level. same (p1 level) (p2 level)) depth) e f
-
-pub part_long : (k level : ℕ) (words : List ℕ) → level * k + k ≤ length words → length (part_at k level words) ≡ k
-part_long k level words h = length-take-le k (drop (level * k) words) (let d = length-drop (level * k) words in omega arith)
 
 -- each pair in its place
 module _ {n c w : ℕ} {F : List ℕ → List ℕ} (s : Sound n c w F) (place depth : ℕ) (bottom path : List ℕ) (low : State w bottom) (fits : State (depth * w) path) where

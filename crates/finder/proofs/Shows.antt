@@ -21,8 +21,8 @@ use Rattle.openings.proofs.Causes.{answer_past}
 -- claims and paths that are alike
 claims_alike : (a b : Option (List ℕ)) → (same_claim a b ≡ true → a ≡ b) × (a ≡ b → same_claim a b ≡ true)
 claims_alike None None = (λ _. refl, λ _. refl)
-claims_alike None (Some ys) = (λ e. absurd (let z : ◌≡◌ {A = ℕ} 0 1 = cc in omega arith), λ e. absurd (let z : ◌≡◌ {A = ℕ} 0 1 = cc in omega arith))
-claims_alike (Some xs) None = (λ e. absurd (let z : ◌≡◌ {A = ℕ} 0 1 = cc in omega arith), λ e. absurd (let z : ◌≡◌ {A = ℕ} 0 1 = cc in omega arith))
+claims_alike None (Some ys) = (λ e. cc, λ e. cc)
+claims_alike (Some xs) None = (λ e. cc, λ e. cc)
 claims_alike (Some xs) (Some ys) = (λ e. ap Some ((same_decides xs ys).0 e), λ e. let q : xs ≡ ys = cc in (same_decides xs ys).1 q)
 
 alike_true : (claim1 : Option (List ℕ)) (path1 : List ℕ) (claim2 : Option (List ℕ)) (path2 : List ℕ) → claim1 ≡ claim2 → path1 ≡ path2 → alike claim1 path1 claim2 path2 ≡ true
@@ -97,13 +97,13 @@ real_at {n} {c} {w} {F} s root depth place claim1 path1 claim2 path2 out o1 o2 t
 
 -- a granted search shows something
 claims_some : (claim1 claim2 : Option (List ℕ)) → claims_show claim1 claim2 ≢ nothing
-claims_some (Some xs) (Some ys) e = let z : ◌≡◌ {A = ℕ} 0 1 = cc in omega arith
-claims_some (Some xs) None e = let z : ◌≡◌ {A = ℕ} 0 1 = cc in omega arith
-claims_some None claim2 e = let z : ◌≡◌ {A = ℕ} 0 1 = cc in omega arith
+claims_some (Some xs) (Some ys) e = cc
+claims_some (Some xs) None e = cc
+claims_some None claim2 e = cc
 
 show_some : (words1 words2 : ℕ → List ℕ) (claim1 claim2 : Option (List ℕ)) (out : List ℕ) (m : ℕ) → (show_at words1 words2 claim1 claim2 out m).0 ≢ nothing
 show_some words1 words2 claim1 claim2 out zero e = claims_some claim1 claim2 e
-show_some words1 words2 claim1 claim2 out (suc level) e = let z : ◌≡◌ {A = ℕ} 0 1 = cc in omega arith
+show_some words1 words2 claim1 claim2 out (suc level) e = cc
 
 shown_granted : (a : Answer) (x : Shown) → if_granted a x nothing ≢ nothing → a ≡ granted
 shown_granted granted x h = refl
@@ -115,7 +115,7 @@ real_either (denied m vs) out f P g d = d
 
 accepted_parts : (a : Answer) (b : Bool) → if_granted a b false ≡ true → (a ≡ granted) × (b ≡ true)
 accepted_parts granted b e = (refl, e)
-accepted_parts (denied m vs) b e = absurd (let z : ◌≡◌ {A = ℕ} 0 1 = cc in omega arith)
+accepted_parts (denied m vs) b e = cc
 
 -- the check grants an opening of two that the finder grants
 check_granted : (w : ℕ) (root : List ℕ) (depth place : ℕ) (claim : Option (List ℕ)) (path : List ℕ) → (too_deep depth).0 ≡ false → (no_place depth place).0 ≡ false → (bad_claim claim).0 ≡ false → (bad_buffer w root).0 ≡ false → (bad_buffer (depth * w) path).0 ≡ false → Fine w root depth claim path → check_answer w root depth place claim path ≡ granted

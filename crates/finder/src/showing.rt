@@ -1,5 +1,5 @@
 // What two openings show that are known to be accepted, from the pairs that they hashed.
-ghost use Rattle.std.specs.Prelude.{◌≡◌, ◌+◌, ◌*◌, ◌≤◌, length};
+ghost use Rattle.std.specs.Prelude.{◌≡◌, ◌+◌, ◌*◌, ◌<◌, ◌≤◌, length, IfSome};
 ghost use Rattle.openings.specs.Opening.{claimed, same, part_at};
 ghost use Rattle.openings.specs.Sites.{claim_of};
 ghost use Rattle.finder.specs.Findings.{shown_by, highest, one_past, claims_show, shows};
@@ -41,7 +41,8 @@ fn show_claims(first: Option<&[u64]>, second: Option<&[u64]>) -> Clash
 fn highest_unlike(k: usize, n: usize, first: Climbed<'_>, second: Climbed<'_>) -> Option<usize>
     requires first { length first.pairs.now ≡ n * k }
     requires second { length second.pairs.now ≡ n * k }
-    ensures { one_past result ≡ highest (λ level. same (part_at k level first.entry.pairs.now) (part_at k level second.entry.pairs.now)) n }
+    ensures highest { one_past result ≡ highest (λ level. same (part_at k level first.entry.pairs.now) (part_at k level second.entry.pairs.now)) n }
+    ensures low { IfSome result (λ level. level < n) }
 {
     (0..n)
         .rev()

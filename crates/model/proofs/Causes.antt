@@ -17,7 +17,7 @@ pub none_there : (xs : List Cause) → answer xs ≡ granted → NoneThere xs
 none_there [] e = tt
 none_there (x ∷ xs) e =
     ⊎_elim
-    (λ b. absurd (let never : denied x.1 x.2 ≡ granted = rw b at e in let z : ◌≡◌ {A = ℕ} 0 1 = cc in omega arith))
+    (λ b. absurd (let never : denied x.1 x.2 ≡ granted = rw b at e in cc))
     (λ b. (b, none_there xs (rw b at e)))
     (cases_Bool x.0)
 

@@ -57,6 +57,7 @@ impl<'a> Site<'a> {
     }
 
     // The refusals of lengths, in their order.
+    #[tactic(auto, using(crate::proofs::Causes::shapes_answer))]
     pub fn admit<K: Kind>(self, openings: &[Opening<'_>]) -> Result<(), Denial>
         ensures { told result ≡ answer (shape_causes K.DIGEST self.entry.root.now self.entry.depth.levels openings.now) }
     {
