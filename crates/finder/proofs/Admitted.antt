@@ -1,8 +1,8 @@
 -- What two openings that are admitted have, and the causes of a refusal in a row.
-use Rattle.std.proofs.Common.{◌≡◌, ℕ, ◌*◌, List, [], ◌∷◌, ◌++◌, length, Option, sym, ap, ◌∙◌}
+use Rattle.std.proofs.Common.{◌≡◌, ℕ, ◌*◌, List, [], ◌∷◌, ◌++◌, Option, sym, ap, ◌∙◌}
 use Rattle.kinds.specs.Answers.{Answer, granted, denied, Cause, answer}
 use Rattle.kinds.specs.Words.{not_elements}
-use Rattle.model.proofs.Causes.{NoneThere, none_there, all_elements, right_buffer}
+use Rattle.model.proofs.Causes.{NoneThere, all_elements, right_buffer}
 use Rattle.model.specs.Calls.{too_deep, no_place}
 use Rattle.kinds.specs.Kinds.{State}
 use Rattle.kinds.specs.Permuting.{bad_buffer}
@@ -13,28 +13,20 @@ use Rattle.openings.proofs.Admitted.{Fine}
 use Rattle.openings.proofs.Causes.{answer_front, answer_past}
 use Rattle.finder.specs.Findings.{Shown, nothing, handed_causes, unless_denied, found, verdict, find_call}
 
-pub record BothFine (w : ℕ) (root : List ℕ) (depth : ℕ) (claim1 : Option (List ℕ)) (path1 : List ℕ) (claim2 : Option (List ℕ)) (path2 out : List ℕ) : Type 0 where
-  pub one : Fine w root depth claim1 path1
-  pub two : Fine w root depth claim2 path2
-  pub roomy : length out ≡ 4 * w
-
-module _ (w : ℕ) (root : List ℕ) (depth place : ℕ) (claim1 : Option (List ℕ)) (path1 : List ℕ) (claim2 : Option (List ℕ)) (path2 out : List ℕ) where
-  pub both_fine : NoneThere (handed_causes w root depth place claim1 path1 claim2 path2 out) → BothFine w root depth claim1 path1 claim2 path2 out
-  both_fine none =
-      let sizes = none.1.1.1.1 in
-      let all = all_elements (root ++ (words_of claim1 ++ (path1 ++ (words_of claim2 ++ path2)))) sizes.1.1.1.1.0 in
-      let r1 = each_right root (words_of claim1 ++ (path1 ++ (words_of claim2 ++ path2))) all in
-      let r2 = each_right (words_of claim1) (path1 ++ (words_of claim2 ++ path2)) r1 in
-      let r3 = each_right path1 (words_of claim2 ++ path2) r2 in
-      let top : State w root = record { long = right_buffer w root sizes.0; each = each_left root (words_of claim1 ++ (path1 ++ (words_of claim2 ++ path2))) all } in
-      record {
-        one = record { root_fits = top; each = each_left (words_of claim1) (path1 ++ (words_of claim2 ++ path2)) r1; path_fits = record { long = right_buffer (depth * w) path1 sizes.1.0; each = each_left path1 (words_of claim2 ++ path2) r2 } };
-        two = record { root_fits = top; each = each_left (words_of claim2) path2 r3; path_fits = record { long = right_buffer (depth * w) path2 sizes.1.1.0; each = each_right (words_of claim2) path2 r3 } };
-        roomy = right_buffer (4 * w) out sizes.1.1.1.0;
-      }
-
-  pub granted_fine : answer (handed_causes w root depth place claim1 path1 claim2 path2 out) ≡ granted → BothFine w root depth claim1 path1 claim2 path2 out
-  granted_fine e = both_fine (none_there (handed_causes w root depth place claim1 path1 claim2 path2 out) e)
+pub both_fine : (w : ℕ) (root : List ℕ) (depth place : ℕ) (claim1 : Option (List ℕ)) (path1 : List ℕ) (claim2 : Option (List ℕ)) (path2 out : List ℕ) →
+    NoneThere (handed_causes w root depth place claim1 path1 claim2 path2 out) → Fine w root depth claim1 path1 × Fine w root depth claim2 path2
+both_fine w root depth place claim1 path1 claim2 path2 out none =
+    let sizes = none.1.1.1.1 in
+    let all = all_elements (root ++ (words_of claim1 ++ (path1 ++ (words_of claim2 ++ path2)))) sizes.1.1.1.1.0 in
+    let r1 = each_right root (words_of claim1 ++ (path1 ++ (words_of claim2 ++ path2))) all in
+    let r2 = each_right (words_of claim1) (path1 ++ (words_of claim2 ++ path2)) r1 in
+    let r3 = each_right path1 (words_of claim2 ++ path2) r2 in
+    let top : State w root = record { long = right_buffer w root sizes.0; each = each_left root (words_of claim1 ++ (path1 ++ (words_of claim2 ++ path2))) all } in
+    let fits1 : State (depth * w) path1 = record { long = right_buffer (depth * w) path1 sizes.1.0; each = each_left path1 (words_of claim2 ++ path2) r2 } in
+    let fits2 : State (depth * w) path2 = record { long = right_buffer (depth * w) path2 sizes.1.1.0; each = each_right (words_of claim2) path2 r3 } in (
+      record { root_fits = top; climbs = record { each = each_left (words_of claim1) (path1 ++ (words_of claim2 ++ path2)) r1; path_fits = fits1 } },
+      record { root_fits = top; climbs = record { each = each_left (words_of claim2) path2 r3; path_fits = fits2 } },
+    )
 
 -- causes that are not there
 pub none_front : (xs ys : List Cause) → NoneThere (xs ++ ys) → NoneThere xs

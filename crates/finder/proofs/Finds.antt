@@ -4,10 +4,9 @@ use Rattle.std.proofs.lemmas.Bool.{cases_Bool}
 use Rattle.kinds.specs.Kinds.{State, Sound}
 use Rattle.kinds.specs.Answers.{Answer, granted, answer}
 use Rattle.model.specs.Trees.{leaf}
-use Rattle.openings.specs.Opening.{same, part_at, flat, pair_at, pairs_below, reaches}
+use Rattle.openings.specs.Opening.{same, part_at, flat, pair_at, pairs_below, reaches, Climbable}
 use Rattle.openings.proofs.Digests.{leaf_state, pair_digests, flat_state}
 use Rattle.model.proofs.Rows.{row_piece}
-use Rattle.openings.proofs.Admitted.{Fine}
 use Rattle.finder.specs.Findings.{Shown, highest, show_at, shows, alike, verdict_causes, words_at, found, judged_call}
 
 pub highest_le : (test : ℕ → Bool) (n : ℕ) → highest test n ≤ n
@@ -39,7 +38,7 @@ module _ {n c w : ℕ} {F : List ℕ → List ℕ} (s : Sound n c w F) (place de
 
 -- what is shown from the pairs that two climbs left is what the openings show
 pub compared : {n c w : ℕ} {F : List ℕ → List ℕ} → Sound n c w F → (root : List ℕ) (depth place : ℕ) (claim1 : Option (List ℕ)) (path1 : List ℕ) (claim2 : Option (List ℕ)) (path2 out : List ℕ) →
-    Fine w root depth claim1 path1 → Fine w root depth claim2 path2 → (one two together : Bool) (first second left : List ℕ) (x : Shown) (k : ℕ) →
+    Climbable w depth claim1 path1 → Climbable w depth claim2 path2 → (one two together : Bool) (first second left : List ℕ) (x : Shown) (k : ℕ) →
     one ≡ reaches c w F root depth place claim1 path1 → two ≡ reaches c w F root depth place claim2 path2 → together ≡ alike claim1 path1 claim2 path2 →
     first ≡ pairs_below c w F place (leaf c w F claim1) path1 depth → second ≡ pairs_below c w F place (leaf c w F claim2) path2 depth → k ≡ 2 * w → granted ≡ answer (verdict_causes one two together) →
     ◌≡◌ {A = Shown × List ℕ} (x, left) (shows (λ level. part_at k level first) (λ level. part_at k level second) claim1 claim2 out depth) →

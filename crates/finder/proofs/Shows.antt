@@ -15,7 +15,7 @@ use Rattle.openings.proofs.Admitted.{Fine, admitted_fine}
 use Rattle.finder.specs.Findings.{Shown, nothing, same_claim, alike, highest, claims_show, show_at, handed_causes, words_at, found, verdict, find_answer, find_call}
 use Rattle.finder.specs.Law.{AlikeFrom, Real, BothAccepted, Finds, ClashLaw}
 use Rattle.finder.proofs.Levels.{highest_none, highest_some, paths_alike}
-use Rattle.finder.proofs.Admitted.{BothFine, both_fine, none_front, none_back}
+use Rattle.finder.proofs.Admitted.{both_fine, none_front, none_back}
 use Rattle.openings.proofs.Causes.{answer_past}
 
 -- claims and paths that are alike
@@ -41,8 +41,8 @@ module _ {n c w : ℕ} {F : List ℕ → List ℕ} (s : Sound n c w F) (root : L
   -- pairs are alike where their words are
   pair_from : (level : ℕ) → level < depth → words_at c w F place claim1 path1 level ≡ words_at c w F place claim2 path2 level → pair_at c w F place (leaf c w F claim1) path1 level ≡ pair_at c w F place (leaf c w F claim2) path2 level
   pair_from level h e =
-      from_flat w _ _ (pair_digests s place depth (leaf c w F claim1) path1 (leaf_state s claim1 o1.each) o1.path_fits level h)
-      (pair_digests s place depth (leaf c w F claim2) path2 (leaf_state s claim2 o2.each) o2.path_fits level h) e
+      from_flat w _ _ (pair_digests s place depth (leaf c w F claim1) path1 (leaf_state s claim1 o1.climbs.each) o1.climbs.path_fits level h)
+      (pair_digests s place depth (leaf c w F claim2) path2 (leaf_state s claim2 o2.climbs.each) o2.climbs.path_fits level h) e
 
   halved : (level : ℕ) → pair_at c w F place (leaf c w F claim1) path1 level ≡ pair_at c w F place (leaf c w F claim2) path2 level →
       (own_at c w F place (leaf c w F claim1) path1 level ≡ own_at c w F place (leaf c w F claim2) path2 level) × (part_at w level path1 ≡ part_at w level path2)
@@ -54,7 +54,7 @@ module _ {n c w : ℕ} {F : List ℕ → List ℕ} (s : Sound n c w F) (root : L
   own_alike low h a = ⊎_elim (λ e. rw e tops) (λ ne. (halved low (a low (omega arith) (omega arith))).0) (cases_eq low depth)
 
   parts_alike : AlikeFrom 0 depth (pair_at c w F place (leaf c w F claim1) path1) (pair_at c w F place (leaf c w F claim2) path2) → path1 ≡ path2
-  parts_alike a = paths_alike w depth path1 path2 o1.path_fits.long o2.path_fits.long (λ k h. (halved k (a k (omega arith) h)).1)
+  parts_alike a = paths_alike w depth path1 path2 o1.climbs.path_fits.long o2.climbs.path_fits.long (λ k h. (halved k (a k (omega arith) h)).1)
 
 real_claims : (c w : ℕ) (F : List ℕ → List ℕ) (depth : ℕ) (pair1 pair2 : ℕ → Pair) (claim1 claim2 : Option (List ℕ)) (out : List ℕ) → AlikeFrom 0 depth pair1 pair2 → leaf c w F claim1 ≡ leaf c w F claim2 → (claim1 ≡ claim2 → ⊥) → Real c w F depth pair1 pair2 claim1 claim2 out out (claims_show claim1 claim2)
 real_claims c w F depth pair1 pair2 (Some xs) (Some ys) out a e ne =
@@ -81,8 +81,8 @@ real_at {n} {c} {w} {F} s root depth place claim1 path1 claim2 path2 out o1 o2 t
     let words1 = words_at c w F place claim1 path1 in
     let words2 = words_at c w F place claim2 path2 in
     let top = highest_some (λ level. same (words1 level) (words2 level)) depth level e in
-    let d1 = pair_digests s place depth (leaf c w F claim1) path1 (leaf_state s claim1 o1.each) o1.path_fits level top.within in
-    let d2 = pair_digests s place depth (leaf c w F claim2) path2 (leaf_state s claim2 o2.each) o2.path_fits level top.within in
+    let d1 = pair_digests s place depth (leaf c w F claim1) path1 (leaf_state s claim1 o1.climbs.each) o1.climbs.path_fits level top.within in
+    let d2 = pair_digests s place depth (leaf c w F claim2) path2 (leaf_state s claim2 o2.climbs.each) o2.climbs.path_fits level top.within in
     let a : AlikeFrom (suc level) depth (pair_at c w F place (leaf c w F claim1) path1) (pair_at c w F place (leaf c w F claim2) path2) =
     λ k l h. pair_from s root depth place claim1 path1 claim2 path2 o1 o2 tops k h ((same_decides (words1 k) (words2 k)).0 (top.above k (omega arith) h)) in
     record {
@@ -121,12 +121,12 @@ accepted_parts (denied m vs) b e = cc
 check_granted : (w : ℕ) (root : List ℕ) (depth place : ℕ) (claim : Option (List ℕ)) (path : List ℕ) → (too_deep depth).0 ≡ false → (no_place depth place).0 ≡ false → (bad_claim claim).0 ≡ false → (bad_buffer w root).0 ≡ false → (bad_buffer (depth * w) path).0 ≡ false → Fine w root depth claim path → check_answer w root depth place claim path ≡ granted
 check_granted w root depth place claim path e1 e2 e3 e4 e5 o =
     granted_by (check_causes w root depth place claim path)
-    (e1, (e2, (e3, (e4, (e5, (good_elements (root ++ (words_of claim ++ path)) (each_append root _ o.root_fits.each (each_append (words_of claim) path o.each o.path_fits.each)), tt))))))
+    (e1, (e2, (e3, (e4, (e5, (good_elements (root ++ (words_of claim ++ path)) (each_append root _ o.root_fits.each (each_append (words_of claim) path o.climbs.each o.climbs.path_fits.each)), tt))))))
 
 module _ {n c w : ℕ} {F : List ℕ → List ℕ} (s : Sound n c w F) (root : List ℕ) (depth place : ℕ) (claim1 : Option (List ℕ)) (path1 : List ℕ) (claim2 : Option (List ℕ)) (path2 out : List ℕ) where
   -- what a granted search says of its openings
   record Agreed : Type 0 where
-    fine : BothFine w root depth claim1 path1 claim2 path2 out
+    fine : Fine w root depth claim1 path1 × Fine w root depth claim2 path2
     both : BothAccepted c w F root depth place claim1 path1 claim2 path2
     first : reaches c w F root depth place claim1 path1 ≡ true
     second : reaches c w F root depth place claim2 path2 ≡ true
@@ -140,8 +140,8 @@ module _ {n c w : ℕ} {F : List ℕ → List ℕ} (s : Sound n c w F) (root : L
       let judged = none_back handed judging none in
       let fine = both_fine w root depth place claim1 path1 claim2 path2 out given in
       let sizes = given.1.1.1.1 in
-      let one = check_granted w root depth place claim1 path1 given.0 given.1.0 given.1.1.0 sizes.0 sizes.1.0 fine.one in
-      let two = check_granted w root depth place claim2 path2 given.0 given.1.0 given.1.1.1.0 sizes.0 sizes.1.1.0 fine.two in
+      let one = check_granted w root depth place claim1 path1 given.0 given.1.0 given.1.1.0 sizes.0 sizes.1.0 fine.0 in
+      let two = check_granted w root depth place claim2 path2 given.0 given.1.0 given.1.1.1.0 sizes.0 sizes.1.1.0 fine.1 in
       let r1 = not-false (reaches c w F root depth place claim1 path1) judged.0 in
       let r2 = not-false (reaches c w F root depth place claim2 path2) judged.1.0 in
       record {
@@ -161,10 +161,10 @@ module _ {n c w : ℕ} {F : List ℕ → List ℕ} (s : Sound n c w F) (root : L
       let a2 = accepted_parts (check_answer w root depth place claim2 path2) _ both.second in
       let n1 = none_there (check_causes w root depth place claim1 path1) a1.0 in
       let n2 = none_there (check_causes w root depth place claim2 path2) a2.0 in
-      let o1 = admitted_fine w root depth claim1 path1 place a1.0 in
-      let o2 = admitted_fine w root depth claim2 path2 place a2.0 in
+      let o1 = admitted_fine w root depth place claim1 path1 a1.0 in
+      let o2 = admitted_fine w root depth place claim2 path2 a2.0 in
       let roomy : (bad_buffer (4 * w) out).0 ≡ false = good_buffer (4 * w) out ol in
-      let words = good_elements (root ++ (words_of claim1 ++ (path1 ++ (words_of claim2 ++ path2)))) (each_append root _ o1.root_fits.each (each_append (words_of claim1) _ o1.each (each_append path1 _ o1.path_fits.each (each_append (words_of claim2) path2 o2.each o2.path_fits.each)))) in
+      let words = good_elements (root ++ (words_of claim1 ++ (path1 ++ (words_of claim2 ++ path2)))) (each_append root _ o1.root_fits.each (each_append (words_of claim1) _ o1.climbs.each (each_append path1 _ o1.climbs.path_fits.each (each_append (words_of claim2) path2 o2.climbs.each o2.climbs.path_fits.each)))) in
       let handed = handed_causes w root depth place claim1 path1 claim2 path2 out in
       let judging = verdict c w F root depth place claim1 path1 claim2 path2 in
       let given : NoneThere handed = (n1.0, (n1.1.0, (n1.1.1.0, (n2.1.1.0, (n1.1.1.1.0, (n1.1.1.1.1.0, (n2.1.1.1.1.0, (roomy, (words, tt))))))))) in
@@ -185,7 +185,7 @@ module _ {n c w : ℕ} {F : List ℕ → List ℕ} (s : Sound n c w F) (root : L
             (λ e.
             let g = agreed e in
             let tops = (same_decides _ root).0 g.first ∙ sym ((same_decides _ root).0 g.second) in
-            real_at s root depth place claim1 path1 claim2 path2 out g.fine.one g.fine.two tops g.both.differ top refl)
+            real_at s root depth place claim1 path1 claim2 path2 out g.fine.0 g.fine.1 tops g.both.differ top refl)
             refl;
         when_granted = some;
         when_denied = λ m vs e. ap (λ (b : Answer). if_granted b f.0 nothing) e;

@@ -1,9 +1,10 @@
 // The finder: two openings of one place that come from outside, and the clash that they show.
-ghost use Rattle.std.specs.Prelude.{◌≡◌};
-ghost use Rattle.kinds.specs.Answers.{answer, granted};
+ghost use Rattle.std.specs.Prelude.{◌≡◌, ◌*◌, length};
+ghost use Rattle.kinds.specs.Answers.{answer};
 ghost use Rattle.kinds.specs.Denials.{told};
+ghost use Rattle.openings.specs.Opening.{Climbable};
 ghost use Rattle.openings.specs.Sites.{claim_of};
-ghost use Rattle.finder.specs.Findings.{shown, handed_causes, verdict_causes, find_call, judged_call};
+ghost use Rattle.finder.specs.Findings.{shown, verdict_causes, find_call, judged_call};
 
 use crate::clash::Clash;
 use crate::showing::{Climbed, show_highest};
@@ -38,7 +39,9 @@ fn find_admitted<K: Kind>(
     second: Opening<'_>,
     out: &mut [u64],
 ) -> Result<Clash, Denial>
-    requires { answer (handed_causes K.DIGEST site.root.now site.depth.levels site.place (claim_of first) first.path.now (claim_of second) second.path.now out.old) ≡ granted }
+    requires first { Climbable K.DIGEST site.depth.levels (claim_of first) first.path.now }
+    requires second { Climbable K.DIGEST site.depth.levels (claim_of second) second.path.now }
+    requires room { length out.old ≡ 4 * K.DIGEST }
     ensures { (told result, shown result, out.new) ≡ judged_call K.CAPACITY K.DIGEST K.mapping site.entry.root.now site.entry.depth.levels site.entry.place (claim_of first.entry) first.entry.path.now (claim_of second.entry) second.entry.path.now out.old }
 {
     let k = K::rate();

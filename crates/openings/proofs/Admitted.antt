@@ -1,43 +1,52 @@
 -- What an opening that is admitted has.
-use Rattle.std.proofs.Common.{◌≡◌, ℕ, ◌*◌, ◌≤◌, false, List, [], ◌∷◌, ◌++◌, length, take, replicate, Option, sym, ap, ◌∙◌, mul-le-mul, arith}
+use Rattle.std.proofs.Common.{◌≡◌, ℕ, ◌*◌, ◌≤◌, false, List, [], ◌∷◌, ◌++◌, length, take, replicate, Option, Bor, ⊎_elim, sym, ap, ◌∙◌, mul-le-mul, arith}
 use Rattle.field.specs.Field.{Elements}
 use Rattle.kinds.specs.Kinds.{State, Sound}
 use Rattle.kinds.specs.Answers.{granted, answer}
 use Rattle.kinds.specs.Words.{not_elements}
-use Rattle.std.proofs.lemmas.List.{append-nil, length-take-le}
+use Rattle.std.specs.List.{flat_map, list_any, AllByRecursion}
+use Rattle.std.proofs.lemmas.Bool.{cases_Bool}
+use Rattle.std.proofs.lemmas.List.{length-take-le}
 use Rattle.kinds.specs.Permuting.{bad_buffer}
 use Rattle.model.proofs.Causes.{none_there, all_elements, right_buffer}
-use Rattle.openings.specs.Opening.{words_of}
-use Rattle.openings.specs.Checks.{bad_claim, check_causes, check_answer}
+use Rattle.openings.specs.Opening.{words_of, Climbable}
+use Rattle.openings.specs.declared.opening.Opening.{Opening}
+use Rattle.openings.specs.Checks.{check_causes, check_answer}
 use Rattle.openings.proofs.Tests.{each_left, each_right}
 
 pub record Fine (w : ℕ) (root : List ℕ) (depth : ℕ) (claim : Option (List ℕ)) (path : List ℕ) : Type 0 where
   pub root_fits : State w root
-  pub each : Elements (words_of claim)
-  pub path_fits : State (depth * w) path
+  pub climbs : Climbable w depth claim path
 
-module _ (w : ℕ) (root : List ℕ) (depth : ℕ) (claim : Option (List ℕ)) (path : List ℕ) where
-  pub fine_from : (bad_buffer w root).0 ≡ false → (bad_buffer (depth * w) path).0 ≡ false → (not_elements (root ++ (words_of claim ++ path))).0 ≡ false → Fine w root depth claim path
-  fine_from top long words =
-      let all = all_elements (root ++ (words_of claim ++ path)) words in
-      let rest = each_right root (words_of claim ++ path) all in
-      record {
-        root_fits = record { long = right_buffer w root top; each = each_left root (words_of claim ++ path) all };
+pub admitted_fine : (w : ℕ) (root : List ℕ) (depth place : ℕ) (claim : Option (List ℕ)) (path : List ℕ) → check_answer w root depth place claim path ≡ granted → Fine w root depth claim path
+admitted_fine w root depth place claim path e =
+    let none = none_there (check_causes w root depth place claim path) e in
+    let all = all_elements (root ++ (words_of claim ++ path)) none.1.1.1.1.1.0 in
+    let rest = each_right root (words_of claim ++ path) all in
+    record {
+      root_fits = record { long = right_buffer w root none.1.1.1.0; each = each_left root (words_of claim ++ path) all };
+      climbs = record {
         each = each_left (words_of claim) path rest;
-        path_fits = record { long = right_buffer (depth * w) path long; each = each_right (words_of claim) path rest };
-      }
+        path_fits = record { long = right_buffer (depth * w) path none.1.1.1.1.0; each = each_right (words_of claim) path rest };
+      };
+    }
 
-  pub admitted_fine : (place : ℕ) → check_answer w root depth place claim path ≡ granted → Fine w root depth claim path
-  admitted_fine place e =
-      let none = none_there (check_causes w root depth place claim path) e in
-      fine_from none.1.1.1.0 none.1.1.1.1.0 none.1.1.1.1.1.0
+-- words that are admitted in parts, and paths of one length
+each_part : (parts : List (Bor (List ℕ))) → Elements (flat_map (λ x. x.now) parts) → AllByRecursion (λ x. Elements x.now) parts
+each_part [] each = tt
+each_part (x ∷ xs) each =
+    let rest : List ℕ = flat_map (λ x. x.now) xs in
+    (each_left x.now rest each, each_part xs (each_right x.now rest each))
 
-  -- lengths that are admitted, and then words
-  pub fine_in_turn : granted ≡ answer (bad_claim claim ∷ bad_buffer w root ∷ bad_buffer (depth * w) path ∷ []) → granted ≡ answer (not_elements (root ++ (words_of claim ++ (path ++ []))) ∷ []) → Fine w root depth claim path
-  fine_in_turn e f =
-      let shapes = none_there (bad_claim claim ∷ bad_buffer w root ∷ bad_buffer (depth * w) path ∷ []) (sym e) in
-      let words = none_there (not_elements (root ++ (words_of claim ++ path)) ∷ []) (sym (rw append-nil at f)) in
-      fine_from shapes.1.0 shapes.1.1.0 words.0
+pub parts_each : (parts : List (Bor (List ℕ))) → granted ≡ answer (not_elements (flat_map (λ x. x.now) parts) ∷ []) → AllByRecursion (λ x. Elements x.now) parts
+parts_each parts e =
+    let none = none_there (not_elements (flat_map (λ x. x.now) parts) ∷ []) (sym e) in
+    each_part parts (all_elements (flat_map (λ x. x.now) parts) none.0)
+
+pub paths_right : (long : ℕ) (xs : List Opening) → list_any (λ x. (bad_buffer long x.path.now).0) xs ≡ false → AllByRecursion (λ x. length x.path.now ≡ long) xs
+paths_right long [] none = tt
+paths_right long (x ∷ xs) none =
+    ⊎_elim (λ b. let never = rw b at none in cc) (λ b. (right_buffer long x.path.now b, paths_right long xs (rw b at none))) (cases_Bool (bad_buffer long x.path.now).0)
 
 -- the pairs of a shallow path fit into 128 words; the rate is as the code has it
 pub pairs_fit : {n c w : ℕ} {F : List ℕ → List ℕ} → Sound n c w F → (depth rate : ℕ) → depth ≤ 8 → rate ≡ 2 * w → depth * rate ≤ 128

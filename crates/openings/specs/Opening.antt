@@ -3,6 +3,8 @@
 use Rattle.std.specs.Prelude.{ℕ, zero, suc, ◌*◌, ◌/◌, ◌%◌, ◌^◌, Bool, true, false, cond, ◌&&◌, List, [], ◌∷◌, ◌++◌, take, drop, Some, None, Option, ◌==◌}
 use Rattle.std.specs.Borrow.{Bor}
 use Rattle.std.specs.Option.{option_map}
+use Rattle.field.specs.Field.{Elements}
+use Rattle.kinds.specs.Kinds.{State}
 use Rattle.sponge.specs.Digests.{two_to_one}
 use Rattle.model.specs.Trees.{leaf}
 
@@ -62,3 +64,8 @@ module _ (c w : ℕ) (F : List ℕ → List ℕ) where
   -- whether an opening comes to the root
   abbrev pub reaches : List ℕ → ℕ → ℕ → Option (List ℕ) → List ℕ → Bool
   reaches root depth place claim path = same (own_at place (leaf c w F claim) path depth) root
+
+-- what can be climbed to a depth: a claim of elements, and a path of a digest for each level
+pub record Climbable (w depth : ℕ) (claim : Option (List ℕ)) (path : List ℕ) : Type 0 where
+  pub each : Elements (words_of claim)
+  pub path_fits : State (depth * w) path

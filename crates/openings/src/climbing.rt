@@ -3,7 +3,7 @@ ghost use Rattle.std.specs.Prelude.{◌≡◌, ◌*◌, length};
 ghost use Rattle.field.specs.Field.{Elements};
 ghost use Rattle.kinds.specs.Kinds.{State};
 ghost use Rattle.model.specs.Trees.{leaf};
-ghost use Rattle.openings.specs.Opening.{claimed, words_of, paired, flat, hash_of, own_at, pairs_below, reaches};
+ghost use Rattle.openings.specs.Opening.{claimed, words_of, paired, flat, hash_of, own_at, pairs_below, reaches, Climbable};
 ghost use Rattle.openings.specs.Sites.{claim_of};
 
 use crate::opening::Opening;
@@ -74,8 +74,7 @@ fn climb<K: Kind>(
 
 // Whether an opening that is known to be one comes to the root; its pairs are left in `pairs`.
 pub fn reach<K: Kind>(kind: &K, site: Site<'_>, opening: Opening<'_>, pairs: &mut [u64]) -> bool
-    requires claim { Elements (words_of (claim_of opening)) }
-    requires path { State (site.depth.levels * K.DIGEST) opening.path.now }
+    requires fair { Climbable K.DIGEST site.depth.levels (claim_of opening) opening.path.now }
     requires room { length pairs.old ≡ site.depth.levels * (2 * K.DIGEST) }
     ensures answer { result ≡ reaches K.CAPACITY K.DIGEST K.mapping site.entry.root.now site.entry.depth.levels site.entry.place (claim_of opening.entry) opening.entry.path.now }
     ensures pairs { pairs.new ≡ pairs_below K.CAPACITY K.DIGEST K.mapping site.entry.place (leaf K.CAPACITY K.DIGEST K.mapping (claim_of opening.entry)) opening.entry.path.now site.entry.depth.levels }

@@ -1,6 +1,6 @@
 // Where openings are to lead, and what is refused of them before any hash.
-ghost use Rattle.std.specs.Prelude.{◌≡◌, ◌<◌, [], ◌∷◌, IfOk};
-ghost use Rattle.std.specs.List.{list_any};
+ghost use Rattle.std.specs.Prelude.{◌≡◌, ◌*◌, ◌<◌, [], ◌∷◌, length, IfOk};
+ghost use Rattle.std.specs.List.{list_any, AllByRecursion};
 ghost use Rattle.kinds.specs.Answers.{answer};
 ghost use Rattle.kinds.specs.Denials.{told};
 ghost use Rattle.kinds.specs.Permuting.{bad_buffer};
@@ -59,7 +59,8 @@ impl<'a> Site<'a> {
     // The refusals of lengths, in their order.
     #[tactic(auto, using(crate::proofs::Causes::shapes_answer))]
     pub fn admit<K: Kind>(self, openings: &[Opening<'_>]) -> Result<(), Denial>
-        ensures { told result ≡ answer (shape_causes K.DIGEST self.entry.root.now self.entry.depth.levels openings.now) }
+        ensures answer { told result ≡ answer (shape_causes K.DIGEST self.entry.root.now self.entry.depth.levels openings.now) }
+        ensures paths { IfOk result (λ done. AllByRecursion (λ x. length x.path.now ≡ self.entry.depth.levels * K.DIGEST) openings.now) }
     {
         if any_bad_claim(openings) {
             return Err(Denial::BadLength);

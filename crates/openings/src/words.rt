@@ -1,6 +1,7 @@
 // Words of claims, roots and paths, as they come from outside.
-ghost use Rattle.std.specs.Prelude.{◌≡◌, ◌+◌, ◌≤◌, [], ◌∷◌, ◌++◌, length};
-ghost use Rattle.std.specs.List.{flat_map};
+ghost use Rattle.std.specs.Prelude.{◌≡◌, ◌+◌, ◌≤◌, [], ◌∷◌, ◌++◌, length, IfOk};
+ghost use Rattle.std.specs.List.{flat_map, AllByRecursion};
+ghost use Rattle.field.specs.Field.{Elements};
 ghost use Rattle.kinds.specs.Answers.{answer};
 ghost use Rattle.kinds.specs.Denials.{told};
 ghost use Rattle.kinds.specs.Words.{not_elements};
@@ -28,7 +29,8 @@ pub fn is_bad_claim(claim: Option<&[u64]>) -> bool
 // Refusal 7; the index is counted through all parts in a row.
 pub fn admit_words(parts: &[&[u64]]) -> Result<(), Denial>
     requires { length (flat_map (λ x. x.now) parts.now) ≤ 65536 }
-    ensures { told result ≡ answer (not_elements (flat_map (λ x. x.now) parts.now) ∷ []) }
+    ensures answer { told result ≡ answer (not_elements (flat_map (λ x. x.now) parts.now) ∷ []) }
+    ensures each { IfOk result (λ done. AllByRecursion (λ x. Elements x.now) parts.now) }
 {
     let mut before = 0;
     for part in parts {

@@ -12,4 +12,4 @@ returns-in_err-admit g c =
     let p = err_from_is_err_and r.result r.ensures.1 in
     rw (p.1, p.2)
     (lengths_denied k.CAPACITY k.DIGEST k.mapping c.args.root.now c.args.depth c.args.place (claim_of c.args.first) c.args.first.path.now (claim_of c.args.second) c.args.second.path.now c.args.out.now
-    c.in_ok-site.ensures.answer (number_of c.in_err-admit.field-0.0) (values_of c.in_err-admit.field-0.0) (rw (site.0, site.1) at c.in_err-admit.ensures))
+    c.in_ok-site.ensures.answer (number_of c.in_err-admit.field-0.0) (values_of c.in_err-admit.field-0.0) (rw (site.0, site.1) at c.in_err-admit.ensures.answer))
