@@ -3,6 +3,7 @@
 
 ghost use Rattle.examples.specs.Table.{WorkedExamples};
 
+#[tactic(auto, unfolding(rpo::specs::Matrix::times))]
 pub fn examples_stand()
     ensures { WorkedExamples }
 {}
