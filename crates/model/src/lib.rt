@@ -14,6 +14,7 @@ pub fn lot_laws<K: Kind>()
 {}
 
 // A closed lot of any kind has the nodes of its tree, and writes the tree value and the path of each place.
+#[tactic(auto, using(crate::proofs::Heaps::closed_laws))]
 pub fn closed_laws<K: Kind>()
     ensures { ClosedLaws K.CAPACITY K.DIGEST K.mapping }
 {}
