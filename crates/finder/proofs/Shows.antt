@@ -5,13 +5,12 @@ use Rattle.kinds.specs.Kinds.{Sound}
 use Rattle.kinds.specs.Answers.{Answer, granted, denied, if_granted}
 use Rattle.kinds.specs.Permuting.{bad_buffer}
 use Rattle.sponge.proofs.Parts.{each_append}
-use Rattle.model.specs.Calls.{too_deep, no_place}
 use Rattle.model.specs.Trees.{leaf}
 use Rattle.model.proofs.Causes.{NoneThere, none_there, granted_by, good_elements, good_buffer}
 use Rattle.openings.specs.Opening.{same, words_of, is_right, part_at, Pair, flat, own_at, pair_at, reaches}
-use Rattle.openings.specs.Checks.{bad_claim, check_causes, check_answer}
+use Rattle.openings.specs.Checks.{check_causes, check_answer}
 use Rattle.openings.proofs.Digests.{same_decides, leaf_state, pair_digests, from_flat, paired_parts}
-use Rattle.openings.proofs.Admitted.{Fine, admitted_fine}
+use Rattle.openings.proofs.Admitted.{Fine, admitted_fine, fine_granted}
 use Rattle.finder.specs.Findings.{Shown, nothing, same_claim, alike, highest, claims_show, show_at, handed_causes, words_at, found, verdict, find_answer, find_call}
 use Rattle.finder.specs.Law.{AlikeFrom, Real, BothAccepted, Finds, ClashLaw}
 use Rattle.finder.proofs.Levels.{highest_none, highest_some, paths_alike}
@@ -117,12 +116,6 @@ accepted_parts : (a : Answer) (b : Bool) → if_granted a b false ≡ true → (
 accepted_parts granted b e = (refl, e)
 accepted_parts (denied m vs) b e = cc
 
--- the check grants an opening of two that the finder grants
-check_granted : (w : ℕ) (root : List ℕ) (depth place : ℕ) (claim : Option (List ℕ)) (path : List ℕ) → (too_deep depth).0 ≡ false → (no_place depth place).0 ≡ false → (bad_claim claim).0 ≡ false → (bad_buffer w root).0 ≡ false → (bad_buffer (depth * w) path).0 ≡ false → Fine w root depth claim path → check_answer w root depth place claim path ≡ granted
-check_granted w root depth place claim path e1 e2 e3 e4 e5 o =
-    granted_by (check_causes w root depth place claim path)
-    (e1, (e2, (e3, (e4, (e5, (good_elements (root ++ (words_of claim ++ path)) (each_append root _ o.root_fits.each (each_append (words_of claim) path o.climbs.each o.climbs.path_fits.each)), tt))))))
-
 module _ {n c w : ℕ} {F : List ℕ → List ℕ} (s : Sound n c w F) (root : List ℕ) (depth place : ℕ) (claim1 : Option (List ℕ)) (path1 : List ℕ) (claim2 : Option (List ℕ)) (path2 out : List ℕ) where
   -- what a granted search says of its openings
   record Agreed : Type 0 where
@@ -139,9 +132,8 @@ module _ {n c w : ℕ} {F : List ℕ → List ℕ} (s : Sound n c w F) (root : L
       let given = none_front handed judging none in
       let judged = none_back handed judging none in
       let fine = both_fine w root depth place claim1 path1 claim2 path2 out given in
-      let sizes = given.1.1.1.1 in
-      let one = check_granted w root depth place claim1 path1 given.0 given.1.0 given.1.1.0 sizes.0 sizes.1.0 fine.0 in
-      let two = check_granted w root depth place claim2 path2 given.0 given.1.0 given.1.1.1.0 sizes.0 sizes.1.1.0 fine.1 in
+      let one = fine_granted w root depth place claim1 path1 given.0 given.1.0 given.1.1.0 fine.0 in
+      let two = fine_granted w root depth place claim2 path2 given.0 given.1.0 given.1.1.1.0 fine.1 in
       let r1 = not-false (reaches c w F root depth place claim1 path1) judged.0 in
       let r2 = not-false (reaches c w F root depth place claim2 path2) judged.1.0 in
       record {

@@ -8,10 +8,12 @@ use Rattle.std.specs.List.{flat_map, list_any, AllByRecursion}
 use Rattle.std.proofs.lemmas.Bool.{cases_Bool}
 use Rattle.std.proofs.lemmas.List.{length-take-le}
 use Rattle.kinds.specs.Permuting.{bad_buffer}
-use Rattle.model.proofs.Causes.{none_there, all_elements, right_buffer}
+use Rattle.sponge.proofs.Parts.{each_append}
+use Rattle.model.specs.Calls.{too_deep, no_place}
+use Rattle.model.proofs.Causes.{none_there, granted_by, all_elements, good_elements, right_buffer, good_buffer}
 use Rattle.openings.specs.Opening.{words_of, Climbable}
 use Rattle.openings.specs.declared.opening.Opening.{Opening}
-use Rattle.openings.specs.Checks.{check_causes, check_answer}
+use Rattle.openings.specs.Checks.{bad_claim, check_causes, check_answer}
 use Rattle.openings.proofs.Tests.{each_left, each_right}
 
 pub record Fine (w : ℕ) (root : List ℕ) (depth : ℕ) (claim : Option (List ℕ)) (path : List ℕ) : Type 0 where
@@ -30,6 +32,15 @@ admitted_fine w root depth place claim path e =
         path_fits = record { long = right_buffer (depth * w) path none.1.1.1.1.0; each = each_right (words_of claim) path rest };
       };
     }
+
+pub fine_granted : (w : ℕ) (root : List ℕ) (depth place : ℕ) (claim : Option (List ℕ)) (path : List ℕ) → (too_deep depth).0 ≡ false → (no_place depth place).0 ≡ false → (bad_claim claim).0 ≡ false → Fine w root depth claim path →
+    check_answer w root depth place claim path ≡ granted
+fine_granted w root depth place claim path deep far long fine =
+    let top = fine.root_fits in
+    let fits = fine.climbs.path_fits in
+    let words = each_append root (words_of claim ++ path) top.each (each_append (words_of claim) path fine.climbs.each fits.each) in
+    granted_by (check_causes w root depth place claim path)
+    (deep, (far, (long, (good_buffer w root top.long, (good_buffer (depth * w) path fits.long, (good_elements (root ++ (words_of claim ++ path)) words, tt))))))
 
 -- words that are admitted in parts, and paths of one length
 each_part : (parts : List (Bor (List ℕ))) → Elements (flat_map (λ x. x.now) parts) → AllByRecursion (λ x. Elements x.now) parts

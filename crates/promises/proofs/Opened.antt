@@ -1,5 +1,5 @@
 -- The path that a closed lot writes leads the check from the leaf to the root.
-use Rattle.std.proofs.Common.{◌≡◌, ℕ, zero, suc, ◌+◌, ◌*◌, ◌/◌, ◌%◌, ◌^◌, ◌<◌, ◌≤◌, Bool, true, false, eqb, ltb, ◌≢◌, List, [], ◌∷◌, ◌++◌, length, Some, None, Option, sym, refl, ap, ◌∙◌, ap₂, div-one, arith}
+use Rattle.std.proofs.Common.{◌≡◌, ℕ, zero, suc, ◌+◌, ◌*◌, ◌/◌, ◌%◌, ◌^◌, ◌<◌, ◌≤◌, Bool, true, false, eqb, ltb, ◌≢◌, List, [], ◌∷◌, length, Some, None, Option, sym, refl, ap, ◌∙◌, ap₂, div-one, arith}
 use native.Mathlib.Nat.{div-eq_of_lt}
 use Rattle.std.proofs.lemmas.Bool.{cond_both, eqb-true, eqb-false, ne_eqb, le-ltb, lt-leb, or_from}
 use Rattle.field.specs.Field.{Elements}
@@ -7,20 +7,21 @@ use Rattle.kinds.specs.Answers.{Answer, granted, if_granted}
 use Rattle.kinds.specs.Kinds.{State, Sound}
 use Rattle.kinds.specs.Permuting.{bad_buffer}
 use Rattle.sponge.specs.Digests.{two_to_one}
-use Rattle.sponge.proofs.Parts.{each_none, each_append}
+use Rattle.sponge.proofs.Parts.{each_none}
 use Rattle.model.specs.Calls.{no_place}
 use Rattle.model.specs.Histories.{last_record}
 use Rattle.model.specs.Trees.{leaf, sibling, node, tree_value, path_of}
 use Rattle.model.specs.Lots.{leaf_at, lot_after, history_of}
 use Rattle.model.specs.Closed.{closed_root_answer, open_answer}
-use Rattle.model.proofs.Causes.{granted_by, good_elements, good_buffer}
+use Rattle.model.proofs.Causes.{granted_by, good_buffer}
 use Rattle.model.proofs.Hands.{FairRecord, leaf_state}
 use Rattle.model.proofs.Heaps.{sibling_even, sibling_odd, half_again, closed_laws}
 use Rattle.model.proofs.Paths.{node_state, path_state, path_part}
 use Rattle.model.proofs.Runs.{stands_after}
 use Rattle.openings.specs.Opening.{same, words_of, Pair, paired, is_right, hash_of, own_at}
 use Rattle.openings.proofs.Digests.{same_decides}
-use Rattle.openings.specs.Checks.{bad_claim, check_causes, check_answer, check_call}
+use Rattle.openings.proofs.Admitted.{Fine, fine_granted}
+use Rattle.openings.specs.Checks.{bad_claim, check_call}
 use Rattle.promises.specs.Promises.{Opened}
 
 fair_claim : (r : Option (List ℕ)) → FairRecord r → (bad_claim r).0 ≡ false
@@ -66,11 +67,8 @@ module _ {n c w : ℕ} {F : List ℕ → List ℕ} (sound : Sound n c w F) (leav
   accepts place claim small low fair kept =
       let top = tree_value c w F depth leaves in
       let path = path_of c w F depth leaves place in
-      let top-state = node_state sound leaves each depth 0 in
-      let path-fits = path_state sound leaves each depth place in
-      let words = each_append top (words_of claim ++ path) top-state.each (each_append (words_of claim) path (fair_words claim fair) path-fits.each) in
-      let admitted : check_answer w top depth place claim path ≡ granted =
-      granted_by (check_causes w top depth place claim path) (le-ltb 8 depth small, (lt-leb (2 ^ depth) place low, (fair_claim claim fair, (good_buffer w top top-state.long, (good_buffer (depth * w) path path-fits.long, (good_elements (top ++ (words_of claim ++ path)) words, tt)))))) in
+      let fine : Fine w top depth claim path = record { root_fits = node_state sound leaves each depth 0; climbs = record { each = fair_words claim fair; path_fits = path_state sound leaves each depth place } } in
+      let admitted = fine_granted w top depth place claim path (le-ltb 8 depth small) (lt-leb (2 ^ depth) place low) (fair_claim claim fair) fine in
       let reached : same (own_at c w F place (leaf c w F claim) path depth) top ≡ true =
       ap (λ (own : List ℕ). same own top) (ap (λ (own : List ℕ). own_at c w F place own path depth) (sym kept) ∙ comes_to_root place low) ∙ (same_decides top top).1 refl in
       ap₂ (λ (a : Answer) (r : Bool). (a, if_granted a r false)) admitted reached
