@@ -3,9 +3,9 @@ ghost use Rattle.kinds.specs.Kinds.{State};
 ghost use Rattle.model.specs.Trees.{tree_value};
 ghost use Rattle.model.specs.Lots.{leaf_at};
 ghost use Rattle.model.specs.Closed.{all_nodes};
-ghost use Rattle.lots.specs.Nodes.{leaves_in, nodes_in};
+ghost use Rattle.lots.specs.Nodes.{leaves_in};
 
-use crate::nodes::Nodes;
+use crate::closed::ClosedLot;
 use crate::table::Table;
 use kinds::kind::Kind;
 use model::depth::Depth;
@@ -83,12 +83,11 @@ impl Leaves {
     }
 
     // Fills the nodes above the leaves.
-    pub(crate) fn close<K: Kind>(self, kind: &K) -> Nodes
-        ensures depth { result.depth.levels ≡ self.depth.levels }
-        ensures nodes { nodes_in K.DIGEST self.depth.levels result.table.words.items ≡ all_nodes K.CAPACITY K.DIGEST K.mapping self.depth.levels (leaf_at K.DIGEST (leaves_in K.DIGEST self.depth.levels self.table.words.items)) }
+    pub(crate) fn close<K: Kind>(self, kind: K) -> ClosedLot<K>
+        ensures { result ≡ record { depth = self.depth.levels; nodes = all_nodes K.CAPACITY K.DIGEST K.mapping self.depth.levels (leaf_at K.DIGEST (leaves_in K.DIGEST self.depth.levels self.table.words.items)) } }
     {
         let Leaves { depth, mut table } = self;
-        table.grow(kind, depth.places());
-        Nodes { depth, table }
+        table.grow(&kind, depth.places());
+        ClosedLot { kind, depth, table }
     }
 }

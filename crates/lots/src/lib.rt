@@ -4,5 +4,4 @@
 pub mod closed;
 pub mod leaves;
 pub mod lot;
-pub mod nodes;
 pub mod table;

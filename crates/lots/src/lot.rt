@@ -1,9 +1,10 @@
 ghost use Rattle.std.specs.Prelude.{◌≡◌, [], IfOk};
 ghost use Rattle.kinds.specs.Denials.{told};
 ghost use Rattle.model.specs.Calls.{making, begin as beginning, feed as feeding, feed_eight as feeding_eight, seal as sealing, abandon as abandoning, clear as clearing, root as rooting};
-ghost use Rattle.model.specs.Lots.{newly_made, step};
+ghost use Rattle.model.specs.Lots.{Lot as ModelLot, newly_made, step};
 ghost use Rattle.model.specs.Closed.{closed};
-ghost use Rattle.lots.specs.Seen.{seen, seen_closed};
+ghost use Rattle.stations.specs.Tables.{all_shown};
+ghost use Rattle.lots.specs.Nodes.{leaves_in};
 
 use crate::closed::ClosedLot;
 use crate::leaves::Leaves;
@@ -13,6 +14,7 @@ use model::depth::Depth;
 use stations::slot::Slot;
 use stations::table::Stations;
 use std::alloc::{AllocError, Global};
+use std::marker::Model;
 
 // A lot while it is filled. After `new` nothing allocates, and no call asks anything of its caller.
 #[derive(Drop)]
@@ -22,10 +24,17 @@ pub struct Lot<K: Kind> {
     stations: Stations,
 }
 
+// Nothing stale shows: 2^depth leaves, and idle stations bare.
+impl<K: Kind> Model for Lot<K> {
+    ghost Value = { ModelLot };
+
+    ghost view = { λ l. record { depth = l.leaves.depth.levels; leaves = leaves_in K.DIGEST l.leaves.depth.levels l.leaves.table.words.items; stations = all_shown K.CAPACITY K.DIGEST l.stations.table } };
+}
+
 impl<K: Kind> Lot<K> {
     // Makes the lot anew, with 2^depth empty places.
     pub fn make(&mut self, depth: u8) -> Result<(), Denial>
-        ensures { (seen K.CAPACITY K.DIGEST self.new, told result, []) ≡ step K.CAPACITY K.DIGEST K.mapping (seen K.CAPACITY K.DIGEST self.old) (making depth) }
+        ensures { (self.new, told result, []) ≡ step K.CAPACITY K.DIGEST K.mapping self.old (making depth) }
     {
         let depth = Depth::try_from(depth)?;
         self.leaves.make(depth);
@@ -35,7 +44,7 @@ impl<K: Kind> Lot<K> {
 
     // Begins a record of that length for a place.
     pub fn begin(&mut self, station: u8, place: u16, length: u16) -> Result<(), Denial>
-        ensures { (seen K.CAPACITY K.DIGEST self.new, told result, []) ≡ step K.CAPACITY K.DIGEST K.mapping (seen K.CAPACITY K.DIGEST self.old) (beginning station place length) }
+        ensures { (self.new, told result, []) ≡ step K.CAPACITY K.DIGEST K.mapping self.old (beginning station place length) }
     {
         let slot = Slot::try_from(station)?;
         let place = self.leaves.depth().admit(place)?;
@@ -43,7 +52,7 @@ impl<K: Kind> Lot<K> {
     }
 
     pub fn feed(&mut self, station: u8, word: u64) -> Result<(), Denial>
-        ensures { (seen K.CAPACITY K.DIGEST self.new, told result, []) ≡ step K.CAPACITY K.DIGEST K.mapping (seen K.CAPACITY K.DIGEST self.old) (feeding station word) }
+        ensures { (self.new, told result, []) ≡ step K.CAPACITY K.DIGEST K.mapping self.old (feeding station word) }
     {
         let slot = Slot::try_from(station)?;
         self.stations.feed(slot, &self.kind, word)
@@ -51,7 +60,7 @@ impl<K: Kind> Lot<K> {
 
     // Eight words, all or none.
     pub fn feed_eight(&mut self, station: u8, words: &[u64; 8]) -> Result<(), Denial>
-        ensures { (seen K.CAPACITY K.DIGEST self.new, told result, []) ≡ step K.CAPACITY K.DIGEST K.mapping (seen K.CAPACITY K.DIGEST self.old) (feeding_eight station words.now) }
+        ensures { (self.new, told result, []) ≡ step K.CAPACITY K.DIGEST K.mapping self.old (feeding_eight station words.now) }
     {
         let slot = Slot::try_from(station)?;
         self.stations.feed_eight(slot, &self.kind, words)
@@ -59,7 +68,7 @@ impl<K: Kind> Lot<K> {
 
     // Puts the digest of the record in hand at its place.
     pub fn seal(&mut self, station: u8) -> Result<(), Denial>
-        ensures { (seen K.CAPACITY K.DIGEST self.new, told result, []) ≡ step K.CAPACITY K.DIGEST K.mapping (seen K.CAPACITY K.DIGEST self.old) (sealing station) }
+        ensures { (self.new, told result, []) ≡ step K.CAPACITY K.DIGEST K.mapping self.old (sealing station) }
     {
         let slot = Slot::try_from(station)?;
         let mut words = [0u64; 7];
@@ -71,7 +80,7 @@ impl<K: Kind> Lot<K> {
 
     // Drops the record in hand.
     pub fn abandon(&mut self, station: u8) -> Result<(), Denial>
-        ensures { (seen K.CAPACITY K.DIGEST self.new, told result, []) ≡ step K.CAPACITY K.DIGEST K.mapping (seen K.CAPACITY K.DIGEST self.old) (abandoning station) }
+        ensures { (self.new, told result, []) ≡ step K.CAPACITY K.DIGEST K.mapping self.old (abandoning station) }
     {
         let slot = Slot::try_from(station)?;
         self.stations.abandon::<K>(slot)
@@ -79,7 +88,7 @@ impl<K: Kind> Lot<K> {
 
     // Empties a place.
     pub fn clear(&mut self, place: u16) -> Result<(), Denial>
-        ensures { (seen K.CAPACITY K.DIGEST self.new, told result, []) ≡ step K.CAPACITY K.DIGEST K.mapping (seen K.CAPACITY K.DIGEST self.old) (clearing place) }
+        ensures { (self.new, told result, []) ≡ step K.CAPACITY K.DIGEST K.mapping self.old (clearing place) }
     {
         let place = self.leaves.depth().admit(place)?;
         self.leaves.clear::<K>(place);
@@ -88,7 +97,7 @@ impl<K: Kind> Lot<K> {
 
     // Writes the tree value.
     pub fn root(&self, out: &mut [u64]) -> Result<(), Denial>
-        ensures { (seen K.CAPACITY K.DIGEST self.now, told result, out.new) ≡ step K.CAPACITY K.DIGEST K.mapping (seen K.CAPACITY K.DIGEST self.now) (rooting out.old) }
+        ensures { (self.now, told result, out.new) ≡ step K.CAPACITY K.DIGEST K.mapping self.now (rooting out.old) }
     {
         if out.len() != K::DIGEST {
             return Err(Denial::BadBuffer);
@@ -99,22 +108,21 @@ impl<K: Kind> Lot<K> {
 
     // Ends the filling: records in hand are abandoned, and all nodes are worked out, in the table that had the leaves.
     pub fn close(self) -> ClosedLot<K>
-        ensures { seen_closed K.DIGEST result ≡ closed K.CAPACITY K.DIGEST K.mapping (seen K.CAPACITY K.DIGEST self) }
+        ensures { result ≡ closed K.CAPACITY K.DIGEST K.mapping self }
     {
         let Lot {
             kind,
             leaves,
             stations: _,
         } = self;
-        let nodes = leaves.close(&kind);
-        ClosedLot { kind, nodes }
+        leaves.close(kind)
     }
 }
 
 impl<K: Kind + Drop> Lot<K> {
     // An empty lot of depth 0.
     pub fn new(heap: Global, kind: K) -> Result<Lot<K>, AllocError>
-        ensures { IfOk result (λ l. seen K.CAPACITY K.DIGEST l ≡ newly_made K.DIGEST 0) }
+        ensures { IfOk result (λ l. l ≡ newly_made K.DIGEST 0) }
     {
         let leaves = Leaves::new(heap)?;
         Ok(Lot {

@@ -1,5 +1,4 @@
 use Rattle.std.proofs.Common.{◌≤◌, ◌∙◌, arith}
-use Rattle.lots.specs.Seen.{seen}
 use Rattle.lots.proofs.Steps.{newly_is, make_granted}
 use Rattle.lots.proofs.lot.Lot.make.Goals as goal
 
@@ -9,5 +8,5 @@ returns g c =
     let s = g.met.K.Kind.sound in
     let d = c.in_ok-depth.depth in
     let low : c.args.depth ≤ 8 = omega (arith, d.shallow, c.in_ok-depth.ensures.1) in
-    make_granted k.DIGEST c.args.depth (seen k.CAPACITY k.DIGEST c.args.self.now) _ low
-    (newly_is k.DIGEST c.args.depth _ _ _ (c.make.ensures.0 ∙ c.in_ok-depth.ensures.1) c.make.ensures.1 c.new-self.ensures (omega (arith, s.m_small, s.c_some)) low)
+    make_granted k.DIGEST c.args.depth c.args.self.now _ low
+    (newly_is k.DIGEST c.args.depth _ _ _ (c.make.ensures.0 ∙ c.in_ok-depth.ensures.1) c.make.ensures.1 c.new-self-inside.ensures (omega (arith, s.m_small, s.c_some)) low)
