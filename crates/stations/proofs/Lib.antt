@@ -1,2 +1,2 @@
-pub mod Sealing
 pub mod One
+pub mod Sealing

@@ -1,17 +1,14 @@
 -- A full station is sealed: its digest goes to its place.
-use Rattle.std.proofs.Common.{◌≡◌, ℕ, ◌+◌, ◌-◌, ◌*◌, ◌<◌, ◌≤◌, false, ltb, List, length, take, refl, ⊎_elim, mod-lt, arith}
-use Rattle.std.proofs.lemmas.Bool.{le-ltb, cases_lt}
+use Rattle.std.proofs.Common.{◌≡◌, ℕ, Option, Some, ◌+◌, ◌*◌, ◌<◌, ◌≤◌, List, length, take, refl, ⊎_elim, mod-lt, arith}
+use Rattle.std.proofs.lemmas.Bool.{cases_lt}
 use Rattle.std.proofs.lemmas.List.{length-take, get_or-take, get_or_past}
 use Rattle.std.specs.List.{AllWithin}
 use Rattle.kinds.specs.Kinds.{Sound}
-use Rattle.kinds.specs.Answers.{Answer, granted}
 use Rattle.sponge.specs.declared.sponge.Sponge.{Sponge}
 use Rattle.sponge.specs.Streams.{held, finished, Fair}
 use Rattle.sponge.proofs.Joins.{finished_state}
-use Rattle.model.specs.Lots.{Station, idle}
-use Rattle.stations.specs.declared.phase.Phase.{Phase}
-use Rattle.stations.specs.declared.phase.Phase.TheVariants as phase
-use Rattle.stations.specs.Machine.{shown_in, seal_step, Sealed}
+use Rattle.stations.specs.declared.station.Record.{Record}
+use Rattle.stations.specs.Machine.{in_hand, Sealed}
 
 -- the invariant says of each default that it does not stand in for a word, so there are sixteen words
 sixteen : (st : List ℕ) → AllWithin (λ x. x < 18446744069414584321) st 0 16 → 16 ≤ length st
@@ -29,9 +26,5 @@ held_fair {n} {c} {w} sound s =
       room = mod-lt s.filled (omega arith);
     }
 
-pub seal_granted : (c w : ℕ) (s : Sponge) (now : Phase) (place stated : ℕ) → now ≡ phase.Full place stated → ◌≡◌ {A = Station × Answer} (idle, granted) (seal_step (shown_in c w now s))
-seal_granted c w s now place stated e = let none : ltb 0 (stated - stated) ≡ false = le-ltb 0 (stated - stated) (omega arith) in rw (e, none)
-
-pub sealed_full : {n c w : ℕ} {F : List ℕ → List ℕ} → Sound n c w F → (s : Sponge) (now : Phase) (place stated : ℕ) → now ≡ phase.Full place stated → (out : List ℕ) → out ≡ finished c w F (held c w s) → Sealed c w F (shown_in c w now s) place out
-sealed_full {n} {c} {w} {F} sound s now place stated e out eo =
-    rw (e, eo) (record { state = finished_state sound (held c w s) (held_fair sound s); into = λ ls. refl })
+pub sealed_full : {n c w : ℕ} {F : List ℕ → List ℕ} → Sound n c w F → (o : Option Record) (r : Record) → o ≡ Some r → (out : List ℕ) → out ≡ finished c w F (held c w r.sponge) → Sealed c w F (in_hand c w o) r.place out
+sealed_full {n} {c} {w} {F} sound o r e out eo = rw (e, eo) (record { state = finished_state sound (held c w r.sponge) (held_fair sound r.sponge); into = λ ls. refl })

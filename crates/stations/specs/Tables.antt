@@ -2,11 +2,11 @@
 use Rattle.std.specs.Prelude.{ℕ, List, map, slice_index_or, slice_set}
 use Rattle.kinds.specs.Answers.{Answer}
 use Rattle.model.specs.Lots.{Station, idle}
-use Rattle.stations.specs.declared.station.Station as program
+use Rattle.stations.specs.declared.table.Stations.{Stations}
 use Rattle.stations.specs.Machine.{shown}
 
-abbrev pub all_shown : ℕ → ℕ → List program.Station → List Station
-all_shown c w t = map (shown c w) t
+abbrev pub all_shown : ℕ → ℕ → Stations → List Station
+all_shown c w t = map (shown c w) t.table
 
 -- the stations after a call at station i, and the answer
 abbrev pub at_one : List Station → ℕ → (Station → Station × Answer) → List Station × Answer

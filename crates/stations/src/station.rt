@@ -1,15 +1,21 @@
-ghost use Rattle.std.specs.Prelude.{◌≡◌, true};
-ghost use Rattle.stations.specs.Phases.{sound};
+ghost use Rattle.std.specs.Prelude.{◌≤◌};
 
-use crate::phase::Phase;
 use sponge::sponge::Sponge;
 
 pub mod calls;
 
-// One station: what it does, and the sponge that its record goes into. An idle station's sponge is stale.
+// A record in hand: the place that it is for, its stated length, how many of its elements came, and the sponge that took them.
+#[derive(Clone, Copy)]
+pub struct Record {
+    place: usize,
+    length: usize,
+    got: usize,
+    sponge: Sponge,
+    ghost within: { got ≤ length },
+}
+
+// One station: idle, or with a record in hand.
 #[derive(Clone, Copy)]
 pub struct Station {
-    phase: Phase,
-    sponge: Sponge,
-    ghost lacking: { sound phase ≡ true },
+    record: Option<Record>,
 }

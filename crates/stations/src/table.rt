@@ -18,24 +18,22 @@ pub struct Stations {
 impl Stations {
     // Eight idle stations.
     pub fn new<K: Kind>() -> Stations
-        ensures { all_shown K.CAPACITY K.DIGEST result.table ≡ replicate 8 idle }
+        ensures { all_shown K.CAPACITY K.DIGEST result ≡ replicate 8 idle }
     {
-        let one = Station::new::<K>();
+        let one = Station::new();
         Stations { table: [one; 8] }
     }
 
     pub fn begin<K: Kind>(&mut self, slot: Slot, place: usize, length: usize) -> Result<(), Denial>
-        ensures { (all_shown K.CAPACITY K.DIGEST self.new.table, told result) ≡ at_one (all_shown K.CAPACITY K.DIGEST self.old.table) slot.index (begin_step K.CAPACITY K.DIGEST K.mapping place length) }
+        ensures { (all_shown K.CAPACITY K.DIGEST self.new, told result) ≡ at_one (all_shown K.CAPACITY K.DIGEST self.old) slot (begin_step K.CAPACITY K.DIGEST K.mapping place length) }
     {
-        let station = &mut self.table[slot.index()];
-        station.begin::<K>(place, length)
+        self.table[slot.index()].begin::<K>(place, length)
     }
 
     pub fn feed<K: Kind>(&mut self, slot: Slot, kind: &K, word: u64) -> Result<(), Denial>
-        ensures { (all_shown K.CAPACITY K.DIGEST self.new.table, told result) ≡ at_one (all_shown K.CAPACITY K.DIGEST self.old.table) slot.index (feed_step K.CAPACITY K.DIGEST K.mapping (word ∷ [])) }
+        ensures { (all_shown K.CAPACITY K.DIGEST self.new, told result) ≡ at_one (all_shown K.CAPACITY K.DIGEST self.old) slot (feed_step K.CAPACITY K.DIGEST K.mapping (word ∷ [])) }
     {
-        let station = &mut self.table[slot.index()];
-        station.feed(kind, word)
+        self.table[slot.index()].feed(kind, &[word])
     }
 
     pub fn feed_eight<K: Kind>(
@@ -44,26 +42,23 @@ impl Stations {
         kind: &K,
         words: &[u64; 8],
     ) -> Result<(), Denial>
-        ensures { (all_shown K.CAPACITY K.DIGEST self.new.table, told result) ≡ at_one (all_shown K.CAPACITY K.DIGEST self.old.table) slot.index (feed_step K.CAPACITY K.DIGEST K.mapping words.now) }
+        ensures { (all_shown K.CAPACITY K.DIGEST self.new, told result) ≡ at_one (all_shown K.CAPACITY K.DIGEST self.old) slot (feed_step K.CAPACITY K.DIGEST K.mapping words.now) }
     {
-        let station = &mut self.table[slot.index()];
-        station.feed_eight(kind, words)
+        self.table[slot.index()].feed(kind, words)
     }
 
     // The place of the record in hand at a station, with its digest in `out`.
     pub fn seal<K: Kind>(&mut self, slot: Slot, kind: &K, out: &mut [u64]) -> Result<usize, Denial>
         requires { long out.old ≡ K.DIGEST }
-        ensures step { (all_shown K.CAPACITY K.DIGEST self.new.table, told result) ≡ at_one (all_shown K.CAPACITY K.DIGEST self.old.table) slot.index seal_step }
-        ensures sealed { IfOk result (λ p. Sealed K.CAPACITY K.DIGEST K.mapping (slice_index_or (all_shown K.CAPACITY K.DIGEST self.old.table) slot.index idle) p out.new) }
+        ensures step { (all_shown K.CAPACITY K.DIGEST self.new, told result) ≡ at_one (all_shown K.CAPACITY K.DIGEST self.old) slot seal_step }
+        ensures sealed { IfOk result (λ p. Sealed K.CAPACITY K.DIGEST K.mapping (slice_index_or (all_shown K.CAPACITY K.DIGEST self.old) slot idle) p out.new) }
     {
-        let station = &mut self.table[slot.index()];
-        station.seal(kind, out)
+        self.table[slot.index()].seal(kind, out)
     }
 
     pub fn abandon<K: Kind>(&mut self, slot: Slot) -> Result<(), Denial>
-        ensures { (all_shown K.CAPACITY K.DIGEST self.new.table, told result) ≡ at_one (all_shown K.CAPACITY K.DIGEST self.old.table) slot.index abandon_step }
+        ensures { (all_shown K.CAPACITY K.DIGEST self.new, told result) ≡ at_one (all_shown K.CAPACITY K.DIGEST self.old) slot abandon_step }
     {
-        let station = &mut self.table[slot.index()];
-        station.abandon()
+        self.table[slot.index()].abandon()
     }
 }

@@ -1,42 +1,36 @@
-// The calls at one station. A full station lacks nothing, and an idle one denies all but `begin`.
-ghost use Rattle.std.specs.Prelude.{◌≡◌, ℕ, ◌≤◌, true, [], ◌∷◌, length as long, IfOk};
-ghost use Rattle.sponge.specs.declared.sponge.Sponge.{Sponge as Inside};
-ghost use Rattle.sponge.specs.Streams.{held};
+// The calls at one station. An idle one denies all but `begin`.
+ghost use Rattle.std.specs.Prelude.{◌≡◌, ℕ, Some, length as long, IfOk};
 ghost use Rattle.kinds.specs.Denials.{told};
-ghost use Rattle.model.specs.Lots.{idle, busy};
-ghost use Rattle.stations.specs.Phases.{sound};
-ghost use Rattle.stations.specs.Machine.{shown, shown_in, begin_step, feed_step, seal_step, abandon_step, Sealed};
+ghost use Rattle.model.specs.Lots.{idle};
+ghost use Rattle.stations.specs.Machine.{in_hand, shown, begin_step, feed_step, seal_step, abandon_step, Sealed};
 
-use crate::phase::Phase;
-use crate::station::Station;
-use field::element::{Element, P};
+use crate::station::{Record, Station};
 use kinds::denial::Denial;
 use kinds::kind::Kind;
 use kinds::words::admit;
 use sponge::digest::{LONGEST, start_for};
 use sponge::sponge::Sponge;
 
-// The phase of a record that got that many elements.
-fn phase_at(place: usize, length: usize, got: usize) -> Phase
-    requires { got ≤ length }
-    ensures lacking { sound result ≡ true }
-    ensures shows { (c w : ℕ) (s : Inside) → shown_in c w result s ≡ busy place length got (held c w s) }
-{
-    if got < length {
-        Phase::Filling { place, length, got }
-    } else {
-        Phase::Full { place, length }
+impl Record {
+    // Takes all of the words or none.
+    fn feed<K: Kind>(&mut self, kind: &K, words: &[u64]) -> Result<(), Denial>
+        ensures { (in_hand K.CAPACITY K.DIGEST (Some self.new), told result) ≡ feed_step K.CAPACITY K.DIGEST K.mapping words.now (in_hand K.CAPACITY K.DIGEST (Some self.old)) }
+    {
+        admit(0, words)?;
+        if self.length - self.got < words.len() {
+            return Err(Denial::RecordFull);
+        }
+        self.sponge.absorb_all(kind, words);
+        self.got += words.len();
+        Ok(())
     }
 }
 
 impl Station {
-    pub(crate) fn new<K: Kind>() -> Station
-        ensures { shown K.CAPACITY K.DIGEST result ≡ idle }
+    pub(crate) fn new() -> Station
+        ensures { (c w : ℕ) → shown c w result ≡ idle }
     {
-        Station {
-            phase: Phase::Idle,
-            sponge: Sponge::start::<K>(Element { word: 0 }),
-        }
+        Station { record: None }
     }
 
     pub(crate) fn begin<K: Kind>(&mut self, place: usize, length: usize) -> Result<(), Denial>
@@ -45,50 +39,24 @@ impl Station {
         if length == 0 || length > LONGEST {
             return Err(Denial::BadLength);
         }
-        match self.phase {
-            Phase::Idle => {
-                self.sponge = Sponge::start::<K>(start_for::<K>(length));
-                self.phase = Phase::Filling {
-                    place,
-                    length,
-                    got: 0,
-                };
-                Ok(())
-            }
-            _ => Err(Denial::StationBusy),
+        if self.record.is_some() {
+            return Err(Denial::StationBusy);
         }
+        self.record = Some(Record {
+            place,
+            length,
+            got: 0,
+            sponge: Sponge::start::<K>(start_for::<K>(length)),
+        });
+        Ok(())
     }
 
-    pub(crate) fn feed<K: Kind>(&mut self, kind: &K, word: u64) -> Result<(), Denial>
-        ensures { (shown K.CAPACITY K.DIGEST self.new, told result) ≡ feed_step K.CAPACITY K.DIGEST K.mapping (word ∷ []) (shown K.CAPACITY K.DIGEST self.old) }
-    {
-        match self.phase {
-            Phase::Idle => Err(Denial::StationIdle),
-            _ if word >= P => Err(Denial::NotElement(0)),
-            Phase::Filling { place, length, got } => {
-                self.sponge.absorb(kind, Element { word });
-                self.phase = phase_at(place, length, got + 1);
-                Ok(())
-            }
-            Phase::Full { .. } => Err(Denial::RecordFull),
-        }
-    }
-
-    // Eight words, all or none.
-    pub(crate) fn feed_eight<K: Kind>(&mut self, kind: &K, words: &[u64; 8]) -> Result<(), Denial>
+    pub(crate) fn feed<K: Kind>(&mut self, kind: &K, words: &[u64]) -> Result<(), Denial>
         ensures { (shown K.CAPACITY K.DIGEST self.new, told result) ≡ feed_step K.CAPACITY K.DIGEST K.mapping words.now (shown K.CAPACITY K.DIGEST self.old) }
     {
-        if let Phase::Idle = self.phase {
-            return Err(Denial::StationIdle);
-        }
-        admit(0, words)?;
-        match self.phase {
-            Phase::Filling { place, length, got } if length - got >= 8 => {
-                self.sponge.absorb_all(kind, words);
-                self.phase = phase_at(place, length, got + 8);
-                Ok(())
-            }
-            _ => Err(Denial::RecordFull),
+        match &mut self.record {
+            None => Err(Denial::StationIdle),
+            Some(record) => record.feed(kind, words),
         }
     }
 
@@ -98,26 +66,23 @@ impl Station {
         ensures step { (shown K.CAPACITY K.DIGEST self.new, told result) ≡ seal_step (shown K.CAPACITY K.DIGEST self.old) }
         ensures sealed { IfOk result (λ p. Sealed K.CAPACITY K.DIGEST K.mapping (shown K.CAPACITY K.DIGEST self.old) p out.new) }
     {
-        match self.phase {
-            Phase::Idle => Err(Denial::StationIdle),
-            Phase::Filling { .. } => Err(Denial::RecordShort),
-            Phase::Full { place, .. } => {
-                self.sponge.finish(kind, out);
-                self.phase = Phase::Idle;
-                Ok(place)
-            }
+        let Some(mut record) = self.record else {
+            return Err(Denial::StationIdle);
+        };
+        if record.got < record.length {
+            return Err(Denial::RecordShort);
         }
+        record.sponge.finish(kind, out);
+        self.record = None;
+        Ok(record.place)
     }
 
     pub(crate) fn abandon(&mut self) -> Result<(), Denial>
         ensures { (c w : ℕ) → (shown c w self.new, told result) ≡ abandon_step (shown c w self.old) }
     {
-        match self.phase {
-            Phase::Idle => Err(Denial::StationIdle),
-            _ => {
-                self.phase = Phase::Idle;
-                Ok(())
-            }
+        match self.record.take() {
+            None => Err(Denial::StationIdle),
+            Some(_) => Ok(()),
         }
     }
 }

@@ -1,11 +1,7 @@
-use Rattle.std.proofs.Common.{[], ◌∷◌, length, ◌<◌, rules}
-use Rattle.kinds.specs.Denials.{told}
+use Rattle.std.proofs.Common.{rules, [], ◌∷◌}
 use Rattle.stations.specs.Machine.{feed_step}
 use Rattle.stations.proofs.One.{one_called}
 use Rattle.stations.proofs.table.Stations.feed.Goals as goal
 
 pub returns : goal.returns
-returns g c =
-    let k = g.K.Kind in
-    let low : c.index.result < length c.args.self.now.table = search rules in
-    rw (← c.index.ensures.exact) (one_called k.CAPACITY k.DIGEST c.index.result c.args.self.now.table _ _ (told c.feed.result) (feed_step k.CAPACITY k.DIGEST k.mapping (c.args.word ∷ [])) low c.feed.ensures)
+returns g c = let k = g.K.Kind in one_called k.CAPACITY k.DIGEST _ _ c.index-self-index.result _ _ (feed_step k.CAPACITY k.DIGEST k.mapping (c.args.word ∷ [])) c.index.ensures.exact (search rules) c.feed.ensures
