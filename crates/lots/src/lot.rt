@@ -28,7 +28,7 @@ pub struct Lot<K: Kind> {
 impl<K: Kind> Model for Lot<K> {
     ghost Value = { ModelLot };
 
-    ghost view = { λ l. record { depth = l.leaves.depth.levels; leaves = leaves_in K.DIGEST l.leaves.depth.levels l.leaves.table.words.items; stations = all_shown K.CAPACITY K.DIGEST l.stations.table } };
+    ghost view = { λ l. record { depth = l.leaves.depth.levels; leaves = leaves_in K.DIGEST l.leaves.depth.levels l.leaves.table.words.items; stations = all_shown K.CAPACITY K.DIGEST l.stations } };
 }
 
 impl<K: Kind> Lot<K> {
