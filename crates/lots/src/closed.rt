@@ -14,13 +14,13 @@ use std::marker::Model;
 pub struct ClosedLot<K: Kind> {
     pub(crate) kind: K,
     pub(crate) depth: Depth,
-    pub(crate) table: Table,
+    pub(crate) table: Table<K>,
 }
 
 impl<K: Kind> Model for ClosedLot<K> {
     ghost Value = { Closed };
 
-    ghost view = { λ l. closed_in K.DIGEST l.depth.levels l.table.words.items };
+    ghost view = { λ l. closed_in l.depth.levels l.table.nodes.items };
 }
 
 impl<K: Kind> ClosedLot<K> {
@@ -39,7 +39,7 @@ impl<K: Kind> ClosedLot<K> {
         if out.len() != K::DIGEST {
             return Err(Denial::BadBuffer);
         }
-        self.table.read(1, out);
+        out.copy_from_slice(self.table.read(1).words());
         Ok(())
     }
 
@@ -52,8 +52,7 @@ impl<K: Kind> ClosedLot<K> {
         if out.len() != levels * K::DIGEST {
             return Err(Denial::BadBuffer);
         }
-        self.table
-            .path(K::DIGEST, levels, self.depth.places() + place, out);
+        self.table.path(levels, self.depth.places() + place, out);
         Ok(())
     }
 }

@@ -1,5 +1,4 @@
-ghost use Rattle.std.specs.Prelude.{◌≡◌, ◌^◌, ◌<◌, length, replicate, IfOk, slice_set};
-ghost use Rattle.kinds.specs.Kinds.{State};
+ghost use Rattle.std.specs.Prelude.{◌≡◌, ℕ, ◌^◌, List, length, replicate, IfOk, slice_set};
 ghost use Rattle.model.specs.Trees.{tree_value};
 ghost use Rattle.model.specs.Lots.{leaf_at};
 ghost use Rattle.model.specs.Closed.{all_nodes};
@@ -9,19 +8,28 @@ use crate::closed::ClosedLot;
 use crate::table::Table;
 use kinds::kind::Kind;
 use model::depth::Depth;
+use sponge::hash::Digest;
 use std::alloc::{AllocError, Global};
+use std::marker::Model;
 
 // The leaves of a tree, in a table with room for every depth: leaf k is node 2^depth + k. All else in it is stale.
 #[derive(Drop)]
-pub struct Leaves {
+pub struct Leaves<K: Kind> {
     depth: Depth,
-    table: Table,
+    table: Table<K>,
 }
 
-impl Leaves {
+// The depth, and the digest at each place.
+impl<K: Kind> Model for Leaves<K> {
+    ghost Value = { ℕ × List (List ℕ) };
+
+    ghost view = { λ l. (l.depth.levels, leaves_in l.depth.levels l.table.nodes.items) };
+}
+
+impl<K: Kind> Leaves<K> {
     // The one leaf of a tree of depth 0.
-    pub(crate) fn new(heap: Global) -> Result<Leaves, AllocError>
-        ensures { IfOk result (λ l. (l.depth.levels ≡ 0) × (l.table.words.items ≡ replicate 3584 0)) }
+    pub(crate) fn new(heap: Global) -> Result<Leaves<K>, AllocError>
+        ensures { IfOk result (λ l. l ≡ (0, replicate 1 (replicate K.DIGEST 0))) }
     {
         let table = Table::new(heap)?;
         Ok(Leaves {
@@ -32,59 +40,41 @@ impl Leaves {
 
     // Makes all leaves zeros, of a tree of that depth.
     pub(crate) fn make(&mut self, depth: Depth)
-        ensures { (self.new.depth.levels ≡ depth.levels) × (self.new.table.words.items ≡ replicate 3584 0) }
+        ensures { self.new ≡ (depth.levels, replicate (2 ^ depth.levels) (replicate K.DIGEST 0)) }
     {
         self.table.wipe();
         self.depth = depth;
     }
 
     pub(crate) fn depth(&self) -> Depth
-        ensures { result.levels ≡ self.now.depth.levels }
+        ensures { result.levels ≡ self.now.0 }
     {
         self.depth
     }
 
-    fn put<K: Kind>(&mut self, place: usize, digest: &[u64])
-        requires place { place < 2 ^ self.old.depth.levels }
-        requires digest { State K.DIGEST digest.now }
-        ensures depth { self.new.depth.levels ≡ self.old.depth.levels }
-        ensures leaves { leaves_in K.DIGEST self.old.depth.levels self.new.table.words.items ≡ slice_set (leaves_in K.DIGEST self.old.depth.levels self.old.table.words.items) place digest.now }
-    {
-        self.table.write(self.depth.places() + place, digest);
-    }
-
     // Puts a digest at a place; past the places nothing is put, so that no invariant has to tie a station to the depth.
-    pub(crate) fn store<K: Kind>(&mut self, place: usize, digest: &[u64])
-        requires { State K.DIGEST digest.now }
-        ensures depth { self.new.depth.levels ≡ self.old.depth.levels }
-        ensures leaves { leaves_in K.DIGEST self.old.depth.levels self.new.table.words.items ≡ slice_set (leaves_in K.DIGEST self.old.depth.levels self.old.table.words.items) place digest.now }
+    pub(crate) fn store(&mut self, place: usize, digest: Digest<K>)
+        ensures { self.new ≡ (self.old.0, slice_set self.old.1 place digest) }
     {
         if place < self.depth.places() {
-            self.put::<K>(place, digest);
+            self.table.write(self.depth.places() + place, digest);
         }
     }
 
-    // Makes the leaf at a place zeros.
-    pub(crate) fn clear<K: Kind>(&mut self, place: usize)
-        requires { place < 2 ^ self.old.depth.levels }
-        ensures depth { self.new.depth.levels ≡ self.old.depth.levels }
-        ensures leaves { leaves_in K.DIGEST self.old.depth.levels self.new.table.words.items ≡ slice_set (leaves_in K.DIGEST self.old.depth.levels self.old.table.words.items) place (replicate K.DIGEST 0) }
-    {
-        let zeros = [0u64; 7];
-        self.put::<K>(place, &zeros[..K::DIGEST]);
-    }
-
     // The tree value.
-    pub(crate) fn root<K: Kind>(&self, kind: &K, out: &mut [u64])
+    pub(crate) fn root(&self, kind: &K, out: &mut [u64])
         requires { length out.old ≡ K.DIGEST }
-        ensures { out.new ≡ tree_value K.CAPACITY K.DIGEST K.mapping self.now.depth.levels (leaf_at K.DIGEST (leaves_in K.DIGEST self.now.depth.levels self.now.table.words.items)) }
+        ensures { out.new ≡ tree_value K.CAPACITY K.DIGEST K.mapping self.now.0 (leaf_at K.DIGEST self.now.1) }
     {
-        self.table.tree(kind, self.depth.levels(), 1, out);
+        match self.depth.levels() {
+            0 => out.copy_from_slice(self.table.read(1).words()),
+            levels => out.copy_from_slice(self.table.tree(kind, levels - 1, 1).words()),
+        }
     }
 
     // Fills the nodes above the leaves.
-    pub(crate) fn close<K: Kind>(self, kind: K) -> ClosedLot<K>
-        ensures { result ≡ record { depth = self.depth.levels; nodes = all_nodes K.CAPACITY K.DIGEST K.mapping self.depth.levels (leaf_at K.DIGEST (leaves_in K.DIGEST self.depth.levels self.table.words.items)) } }
+    pub(crate) fn close(self, kind: K) -> ClosedLot<K>
+        ensures { result ≡ record { depth = self.0; nodes = all_nodes K.CAPACITY K.DIGEST K.mapping self.0 (leaf_at K.DIGEST self.1) } }
     {
         let Leaves { depth, mut table } = self;
         table.grow(&kind, depth.places());

@@ -4,13 +4,13 @@ ghost use Rattle.model.specs.Calls.{making, begin as beginning, feed as feeding,
 ghost use Rattle.model.specs.Lots.{Lot as ModelLot, newly_made, step};
 ghost use Rattle.model.specs.Closed.{closed};
 ghost use Rattle.stations.specs.Tables.{all_shown};
-ghost use Rattle.lots.specs.Nodes.{leaves_in};
 
 use crate::closed::ClosedLot;
 use crate::leaves::Leaves;
 use kinds::denial::Denial;
 use kinds::kind::Kind;
 use model::depth::Depth;
+use sponge::hash::Digest;
 use stations::slot::Slot;
 use stations::table::Stations;
 use std::alloc::{AllocError, Global};
@@ -20,7 +20,7 @@ use std::marker::Model;
 #[derive(Drop)]
 pub struct Lot<K: Kind> {
     kind: K,
-    leaves: Leaves,
+    leaves: Leaves<K>,
     stations: Stations,
 }
 
@@ -28,7 +28,7 @@ pub struct Lot<K: Kind> {
 impl<K: Kind> Model for Lot<K> {
     ghost Value = { ModelLot };
 
-    ghost view = { λ l. record { depth = l.leaves.depth.levels; leaves = leaves_in K.DIGEST l.leaves.depth.levels l.leaves.table.words.items; stations = all_shown K.CAPACITY K.DIGEST l.stations } };
+    ghost view = { λ l. record { depth = l.leaves.0; leaves = l.leaves.1; stations = all_shown K.CAPACITY K.DIGEST l.stations } };
 }
 
 impl<K: Kind> Lot<K> {
@@ -71,10 +71,8 @@ impl<K: Kind> Lot<K> {
         ensures { (self.new, told result, []) ≡ step K.CAPACITY K.DIGEST K.mapping self.old (sealing station) }
     {
         let slot = Slot::try_from(station)?;
-        let mut words = [0u64; 7];
-        let digest = &mut words[..K::DIGEST];
-        let place = self.stations.seal(slot, &self.kind, digest)?;
-        self.leaves.store::<K>(place, digest);
+        let (place, digest) = self.stations.seal(slot, &self.kind)?;
+        self.leaves.store(place, digest);
         Ok(())
     }
 
@@ -91,7 +89,7 @@ impl<K: Kind> Lot<K> {
         ensures { (self.new, told result, []) ≡ step K.CAPACITY K.DIGEST K.mapping self.old (clearing place) }
     {
         let place = self.leaves.depth().admit(place)?;
-        self.leaves.clear::<K>(place);
+        self.leaves.store(place, Digest::zeros());
         Ok(())
     }
 

@@ -2,7 +2,6 @@
 use Rattle.std.specs.Prelude.{◌≡◌, ℕ, not, List, [], ◌∷◌, length, nat_lt, Option, Some, None, slice_set}
 use Rattle.kinds.specs.Answers.{Answer, Cause, answer, if_granted}
 use Rattle.kinds.specs.Words.{not_elements}
-use Rattle.kinds.specs.Kinds.{State}
 use Rattle.sponge.specs.Calls.{bad_length}
 use Rattle.sponge.specs.Streams.{held}
 use Rattle.model.specs.Lots.{Station, idle, busy, is_idle, lacks, begun_for, fed_with, sealed_into}
@@ -49,6 +48,5 @@ abbrev pub abandon_step : Station → Station × Answer
 abandon_step h = called (abandon_causes h) idle h
 
 -- sealing the station puts the digest d at place p
-pub record Sealed (c w : ℕ) (F : List ℕ → List ℕ) (h : Station) (p : ℕ) (d : List ℕ) : Type 0 where
-  pub state : State w d
-  pub into : (ls : List (List ℕ)) → sealed_into c w F ls h ≡ slice_set ls p d
+abbrev pub Sealed : ℕ → ℕ → (List ℕ → List ℕ) → Station → ℕ → List ℕ → Type 0
+Sealed c w F h p d = (ls : List (List ℕ)) → sealed_into c w F ls h ≡ slice_set ls p d

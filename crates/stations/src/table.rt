@@ -1,4 +1,4 @@
-ghost use Rattle.std.specs.Prelude.{◌≡◌, [], ◌∷◌, length as long, replicate, IfOk, slice_index_or};
+ghost use Rattle.std.specs.Prelude.{◌≡◌, [], ◌∷◌, replicate, IfOk, slice_index_or};
 ghost use Rattle.kinds.specs.Denials.{told};
 ghost use Rattle.model.specs.Lots.{idle};
 ghost use Rattle.stations.specs.Machine.{begin_step, feed_step, seal_step, abandon_step, Sealed};
@@ -8,6 +8,7 @@ use crate::slot::Slot;
 use crate::station::Station;
 use kinds::denial::Denial;
 use kinds::kind::Kind;
+use sponge::hash::Digest;
 
 // The eight stations of a lot. Each call borrows one of them and leaves the other seven.
 #[derive(Clone, Copy)]
@@ -47,13 +48,12 @@ impl Stations {
         self.table[slot.index()].feed(kind, words)
     }
 
-    // The place of the record in hand at a station, with its digest in `out`.
-    pub fn seal<K: Kind>(&mut self, slot: Slot, kind: &K, out: &mut [u64]) -> Result<usize, Denial>
-        requires { long out.old ≡ K.DIGEST }
+    // The place of the record in hand at a station, and its digest.
+    pub fn seal<K: Kind>(&mut self, slot: Slot, kind: &K) -> Result<(usize, Digest<K>), Denial>
         ensures step { (all_shown K.CAPACITY K.DIGEST self.new, told result) ≡ at_one (all_shown K.CAPACITY K.DIGEST self.old) slot seal_step }
-        ensures sealed { IfOk result (λ p. Sealed K.CAPACITY K.DIGEST K.mapping (slice_index_or (all_shown K.CAPACITY K.DIGEST self.old) slot idle) p out.new) }
+        ensures sealed { IfOk result (λ r. Sealed K.CAPACITY K.DIGEST K.mapping (slice_index_or (all_shown K.CAPACITY K.DIGEST self.old) slot idle) r.0 r.1) }
     {
-        self.table[slot.index()].seal(kind, out)
+        self.table[slot.index()].seal(kind)
     }
 
     pub fn abandon<K: Kind>(&mut self, slot: Slot) -> Result<(), Denial>

@@ -1,43 +1,32 @@
 // The nodes above the leaves, filled in place from the lowest level to the root.
-ghost use Rattle.std.specs.Prelude.{◌≡◌, ◌+◌, ◌*◌, ◌<◌, ◌≤◌, length};
+ghost use Rattle.std.specs.Prelude.{◌≡◌, ◌+◌, ◌*◌, ◌<◌, ◌≤◌};
 ghost use Rattle.sponge.specs.Digests.{two_to_one};
-ghost use Rattle.sponge.specs.Overlays.{overlaid};
-ghost use Rattle.lots.specs.Nodes.{node_in, Grown};
+ghost use Rattle.lots.specs.Nodes.{node_at, Grown};
 
 use crate::table::Table;
 use kinds::kind::Kind;
+use sponge::hash::Digest;
 use sponge::pair::compress;
 
-impl Table {
+impl<K: Kind> Table<K> {
     // The hash of the two nodes below node i.
-    fn hash_node<K: Kind>(&self, kind: &K, i: usize, out: &mut [u64])
-        requires inner { i < 256 }
-        requires out { length out.old ≡ K.DIGEST }
-        ensures { out.new ≡ two_to_one K.CAPACITY K.DIGEST K.mapping (node_in K.DIGEST self.now.words.items (2 * i)) (node_in K.DIGEST self.now.words.items (2 * i + 1)) }
-    {
-        let left = &self.words()[14 * i..][..K::DIGEST];
-        let right = &self.words()[14 * i + 7..][..K::DIGEST];
-        compress(kind, left, right, out);
-    }
-
-    // Writes the hash of the two nodes below node i.
-    fn fill_node<K: Kind>(&mut self, kind: &K, i: usize)
+    pub(crate) fn hash_node(&self, kind: &K, i: usize) -> Digest<K>
         requires { i < 256 }
-        ensures { self.new.words.items ≡ overlaid self.old.words.items (7 * i) (two_to_one K.CAPACITY K.DIGEST K.mapping (node_in K.DIGEST self.old.words.items (2 * i)) (node_in K.DIGEST self.old.words.items (2 * i + 1))) }
+        ensures { result ≡ two_to_one K.CAPACITY K.DIGEST K.mapping (node_at self.now.nodes.items (2 * i)) (node_at self.now.nodes.items (2 * i + 1)) }
     {
-        let mut room = [0u64; 7];
-        let hash = &mut room[..K::DIGEST];
-        self.hash_node(kind, i, hash);
-        self.write(i, hash);
+        let left = self.read(2 * i);
+        let right = self.read(2 * i + 1);
+        compress(kind, left.words(), right.words())
     }
 
     // Writes each node below `half`, the last first.
-    pub(crate) fn grow<K: Kind>(&mut self, kind: &K, half: usize)
+    pub(crate) fn grow(&mut self, kind: &K, half: usize)
         requires { half ≤ 256 }
-        ensures { Grown K.CAPACITY K.DIGEST K.mapping 1 half self.old.words.items self.new.words.items }
+        ensures { Grown K.CAPACITY K.DIGEST K.mapping 1 half self.old.nodes.items self.new.nodes.items }
     {
         for i in (1..half).rev() {
-            self.fill_node(kind, i);
+            let hash = self.hash_node(kind, i);
+            self.write(i, hash);
         }
     }
 }

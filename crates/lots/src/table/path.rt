@@ -1,8 +1,9 @@
 ghost use Rattle.std.specs.Prelude.{◌≡◌, ◌*◌, ◌^◌, ◌<◌, ◌≤◌, length};
 ghost use Rattle.model.specs.Trees.{sibling};
-ghost use Rattle.lots.specs.Nodes.{path_in};
+ghost use Rattle.model.specs.Closed.{siblings_from};
 
 use crate::table::Table;
+use kinds::kind::Kind;
 
 // The other child of a node's parent.
 fn beside(i: usize) -> usize
@@ -12,18 +13,17 @@ fn beside(i: usize) -> usize
     if i % 2 == 0 { i + 1 } else { i - 1 }
 }
 
-impl Table {
-    // Copies the siblings of a node and of those above it, w words of each.
-    pub(crate) fn path(&self, w: usize, levels: usize, node: usize, out: &mut [u64])
-        requires small { w ≤ 7 }
+impl<K: Kind> Table<K> {
+    // Copies the siblings of a node and of those above it.
+    pub(crate) fn path(&self, levels: usize, node: usize, out: &mut [u64])
         requires high { (levels ≤ 8) × ((2 ^ levels ≤ node) × (node < 512)) }
-        requires long { length out.old ≡ levels * w }
-        ensures { out.new ≡ path_in w self.now.words.items levels node }
+        requires long { length out.old ≡ levels * K.DIGEST }
+        ensures { out.new ≡ siblings_from self.now.nodes.items levels node }
     {
         for level in 0..levels {
-            let at = level * w;
-            let other = beside(node >> level);
-            self.read(other, &mut out[at..at + w]);
+            let at = level * K::DIGEST;
+            let other = self.read(beside(node >> level));
+            out[at..at + K::DIGEST].copy_from_slice(other.words());
         }
     }
 }

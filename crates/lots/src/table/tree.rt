@@ -1,27 +1,23 @@
-ghost use Rattle.std.specs.Prelude.{◌≡◌, ◌-◌, ◌^◌, ◌<◌, ◌≤◌, length};
+ghost use Rattle.std.specs.Prelude.{◌≡◌, ◌+◌, ◌-◌, ◌^◌, ◌<◌, ◌≤◌};
 ghost use Rattle.lots.specs.Nodes.{under};
 
 use crate::table::Table;
 use kinds::kind::Kind;
+use sponge::hash::Digest;
 use sponge::pair::compress;
 
-impl Table {
-    // Node i, worked out from the nodes that lie `level` levels below it.
-    pub(crate) fn tree<K: Kind>(&self, kind: &K, level: usize, i: usize, out: &mut [u64])
-        requires inside { (level ≤ 9) × (i < 2 ^ (9 - level)) }
-        requires room { length out.old ≡ K.DIGEST }
-        ensures { out.new ≡ under K.CAPACITY K.DIGEST K.mapping self.now.words.items level i }
+impl<K: Kind> Table<K> {
+    // Node i, worked out from the nodes below it that have `level` levels between.
+    pub(crate) fn tree(&self, kind: &K, level: usize, i: usize) -> Digest<K>
+        requires { (level ≤ 8) × (i < 2 ^ (8 - level)) }
+        ensures { result ≡ under K.CAPACITY K.DIGEST K.mapping self.now.nodes.items (level + 1) i }
     {
         if level == 0 {
-            self.read(i, out);
+            self.hash_node(kind, i)
         } else {
-            let mut left = [0u64; 7];
-            let mut right = [0u64; 7];
-            let left = &mut left[..K::DIGEST];
-            let right = &mut right[..K::DIGEST];
-            self.tree(kind, level - 1, 2 * i, left);
-            self.tree(kind, level - 1, 2 * i + 1, right);
-            compress(kind, left, right, out);
+            let left = self.tree(kind, level - 1, 2 * i);
+            let right = self.tree(kind, level - 1, 2 * i + 1);
+            compress(kind, left.words(), right.words())
         }
     }
 }

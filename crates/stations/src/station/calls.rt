@@ -1,5 +1,5 @@
 // The calls at one station. An idle one denies all but `begin`.
-ghost use Rattle.std.specs.Prelude.{◌≡◌, ℕ, Some, length as long, IfOk};
+ghost use Rattle.std.specs.Prelude.{◌≡◌, ℕ, Some, IfOk};
 ghost use Rattle.kinds.specs.Denials.{told};
 ghost use Rattle.model.specs.Lots.{idle};
 ghost use Rattle.stations.specs.Machine.{in_hand, shown, begin_step, feed_step, seal_step, abandon_step, Sealed};
@@ -9,6 +9,7 @@ use kinds::denial::Denial;
 use kinds::kind::Kind;
 use kinds::words::admit;
 use sponge::digest::{LONGEST, start_for};
+use sponge::hash::Digest;
 use sponge::sponge::Sponge;
 
 impl Record {
@@ -60,11 +61,10 @@ impl Station {
         }
     }
 
-    // The place of the record in hand, with its digest in `out`.
-    pub(crate) fn seal<K: Kind>(&mut self, kind: &K, out: &mut [u64]) -> Result<usize, Denial>
-        requires { long out.old ≡ K.DIGEST }
+    // The place of the record in hand, and its digest.
+    pub(crate) fn seal<K: Kind>(&mut self, kind: &K) -> Result<(usize, Digest<K>), Denial>
         ensures step { (shown K.CAPACITY K.DIGEST self.new, told result) ≡ seal_step (shown K.CAPACITY K.DIGEST self.old) }
-        ensures sealed { IfOk result (λ p. Sealed K.CAPACITY K.DIGEST K.mapping (shown K.CAPACITY K.DIGEST self.old) p out.new) }
+        ensures sealed { IfOk result (λ r. Sealed K.CAPACITY K.DIGEST K.mapping (shown K.CAPACITY K.DIGEST self.old) r.0 r.1) }
     {
         let Some(mut record) = self.record else {
             return Err(Denial::StationIdle);
@@ -72,9 +72,8 @@ impl Station {
         if record.got < record.length {
             return Err(Denial::RecordShort);
         }
-        record.sponge.finish(kind, out);
         self.record = None;
-        Ok(record.place)
+        Ok((record.place, record.sponge.finish(kind)))
     }
 
     pub(crate) fn abandon(&mut self) -> Result<(), Denial>

@@ -7,4 +7,5 @@ pub returns : goal.returns
 returns g c =
     let self = c.self.inside in
     let p = c.in_ok-place.ensures.place in
-    rw (← c.self.view_is) (open_granted g.K.Kind.DIGEST _ self.depth.levels c.depth-levels.result c.args.place c.in_ok-place.place c.places.result self.table.words.items c.args.out.now _ c.DIGEST-2.ensures (c.depth-levels.ensures.exact ∙ ap (λ (l : Closed). l.depth) (sym c.self.view_is)) p.0 c.places.ensures.exact p.1 (rw c.DIGEST-2.ensures (rw c.DIGEST.ensures at c.if-out-levels.false)) c.path.ensures)
+    let levels = c.depth-levels.ensures.exact ∙ ap (λ (l : Closed). l.depth) (sym c.self.view_is) in
+    rw (← c.self.view_is) (open_granted g.K.Kind.DIGEST self.depth.levels c.depth-levels.result c.args.place c.in_ok-place.place c.places.result self.table.nodes.items c.args.out.now _ levels p.0 c.places.ensures.exact p.1 (rw c.DIGEST.ensures at c.if-out-levels.false) c.path.ensures)

@@ -1,8 +1,11 @@
-use Rattle.std.proofs.Common.{arith}
-use Rattle.lots.proofs.Places.{leaves_past}
+use Rattle.std.proofs.Common.{ℕ, List, ap, ◌∙◌}
+use Rattle.lots.specs.Nodes.{leaves_in}
+use Rattle.lots.proofs.Places.{leaves_put}
 use Rattle.lots.proofs.leaves.Leaves.store.Goals as goal
 
-pub returns-else-place-places-clause-leaves : goal.returns-else-place-places-clause-leaves
-returns-else-place-places-clause-leaves g c =
-    let self = c.args.self.now in
-    leaves_past g.K.Kind.DIGEST self.depth.levels c.args.place self.table.words.items c.args.digest.now (omega arith)
+pub returns-then-place-places : goal.returns-then-place-places
+returns-then-place-places g c =
+    let self = c.self.inside in
+    let d = self.depth.levels in
+    let put = (rw c.places-then-place-places.ensures.exact at c.write.ensures) in
+    rw (← c.self.view_is) (ap (λ (ls : List (List ℕ)). (d, ls)) (ap (leaves_in d) put ∙ leaves_put d c.args.place self.table.nodes.items c.args.digest (rw c.places.ensures.exact at c.if-place-places.true)))

@@ -1,18 +1,11 @@
-use Rattle.std.proofs.Common.{◌≡◌, ℕ, length, replicate, ap, ◌∙◌}
-use Rattle.lots.proofs.Writes.{refill, below_refill}
-use Rattle.lots.proofs.Places.{zeros_of}
+use Rattle.std.proofs.Common.{◌≡◌, ℕ, length, replicate, sym, ap, ◌∙◌, arith}
+use Rattle.std.proofs.lemmas.List.{take_at, take_all}
 use Rattle.lots.proofs.table.Table.wipe.Goals as goal
 
-pub invariant_of-self : goal.invariant_of-self
-invariant_of-self c =
-    let v = c.args.self.now.words in
-    let n : length c.wipe.new.words ≡ v.len = c.wipe.auto.words ∙ c.deref_mut.ensures.len in
-    let z : c.wipe.new.words ≡ replicate {A = ℕ} 3584 0 = c.wipe.ensures ∙ ap (λ (m : ℕ). replicate {A = ℕ} m 0) (c.deref_mut.ensures.len ∙ c.args.self.now.long) in
-    record { long = c.args.self.now.long; below = below_refill v.len c.wipe.new.words v.items n (zeros_of 3584 c.wipe.new.words z) }
-
 pub returns : goal.returns
-returns c =
-    let v = c.args.self.now.words in
-    let n : length c.wipe.new.words ≡ v.len = c.wipe.auto.words ∙ c.deref_mut.ensures.len in
-    let z : c.wipe.new.words ≡ replicate {A = ℕ} 3584 0 = c.wipe.ensures ∙ ap (λ (m : ℕ). replicate {A = ℕ} m 0) (c.deref_mut.ensures.len ∙ c.args.self.now.long) in
-    refill v.len c.wipe.new.words v.items n ∙ z
+returns g c =
+    let v = c.args.self.now.nodes in
+    let now = c.loop-node.node-items in
+    let n : length now ≡ v.len = c.loop-node.auto.node-items ∙ c.deref_mut-node-items.ensures.len in
+    let all : c.loop-node.node-index ≡ 512 = omega (arith, n, c.args.self.now.long, c.loop-node.auto.node-index-end) in
+    take_at now _ v.len n ∙ sym (take_all c.loop-node.node-index now (omega (arith, n, c.args.self.now.long))) ∙ c.loop-node.invariant ∙ ap (λ (k : ℕ). replicate k (replicate g.K.Kind.DIGEST 0)) all
