@@ -1,13 +1,10 @@
 -- The tree over a table's leaves, worked out level by level.
-use Rattle.std.proofs.Common.{◌≡◌, ℕ, zero, suc, ◌+◌, ◌-◌, ◌*◌, ◌^◌, ◌<◌, ◌≤◌, List, length, replicate, sym, ap, ◌∙◌, pow-suc, add-one, arith, pow_mono}
+use Rattle.std.proofs.Common.{◌≡◌, ℕ, zero, suc, ◌+◌, ◌-◌, ◌*◌, ◌^◌, ◌<◌, ◌≤◌, List, length, replicate, sym, ap, ◌∙◌, pow-suc, arith, pow_mono}
 use Rattle.sponge.specs.Digests.{two_to_one}
 use Rattle.model.specs.Trees.{node, tree_value}
 use Rattle.model.specs.Lots.{leaf_at}
 use Rattle.lots.specs.Nodes.{under, leaves_in}
 use Rattle.lots.proofs.Places.{leaf_is}
-
-pub under_more : (c w : ℕ) (F : List ℕ → List ℕ) (ns : List (List ℕ)) (n level i : ℕ) → level ≡ n + 1 → under c w F ns level i ≡ two_to_one c w F (under c w F ns n (2 * i)) (under c w F ns n (2 * i + 1))
-under_more c w F ns n level i e = rw (e, add-one n)
 
 pub child_low : (n level i : ℕ) → level ≡ n + 1 → level ≤ 8 → i < 2 ^ (8 - level) → 2 * i + 1 < 2 ^ (8 - n)
 child_low n level i e h l =

@@ -1,9 +1,9 @@
 -- A path that is copied level by level, and what the calls of a closed lot leave where they are granted.
-use Rattle.std.proofs.Common.{◌≡◌, ℕ, zero, suc, ◌+◌, ◌-◌, ◌*◌, ◌/◌, ◌^◌, ◌<◌, ◌≤◌, List, [], ◌++◌, length, get_or, take, drop, sym, refl, ap, ◌∙◌, ap₂, suc-mul, add-mul, one-mul, add-one, pow-suc, zero-mul, arith, pow_pos}
+use Rattle.std.proofs.Common.{◌≡◌, ℕ, zero, suc, ◌+◌, ◌-◌, ◌*◌, ◌/◌, ◌^◌, ◌<◌, ◌≤◌, List, [], ◌++◌, length, get_or, take, drop, sym, refl, ap, ◌∙◌, ap₂, suc-mul, add-mul, one-mul, add-one, pow-suc, arith, pow_pos}
 use borrow.Rule.Slice.PartMut.{put_mid}
 use Rattle.std.proofs.lemmas.Bool.{eq-eqb, lt-leb}
 use Rattle.std.proofs.lemmas.Slice.{take-put_mid}
-use Rattle.std.proofs.lemmas.List.{append_assoc, append-nil, take_all, get_or-take, get_or-drop}
+use Rattle.std.proofs.lemmas.List.{append_assoc, get_or-take, get_or-drop}
 use Rattle.kinds.specs.Answers.{Answer, granted}
 use Rattle.model.specs.Trees.{sibling}
 use Rattle.model.specs.Closed.{siblings_from, open_call}
@@ -11,17 +11,17 @@ use Rattle.model.proofs.Heaps.{sibling_low, sibling_some, half_again}
 use Rattle.lots.specs.Nodes.{node_at, closed_in}
 
 -- the words of the levels before level j, and those from there on
-pub parts : (w levels j : ℕ) → j ≤ levels → j * w + (levels - j) * w ≡ levels * w
+parts : (w levels j : ℕ) → j ≤ levels → j * w + (levels - j) * w ≡ levels * w
 parts w levels j h = sym (add-mul j (levels - j) w) ∙ ap (λ (n : ℕ). n * w) (let e : j + (levels - j) ≡ levels = omega arith in e)
 
-pub room : (at w levels j : ℕ) → at + (levels - j) * w ≡ levels * w → j < levels → (at + w ≤ levels * w) × (at + w + (levels - (j + 1)) * w ≡ levels * w)
+room : (at w levels j : ℕ) → at + (levels - j) * w ≡ levels * w → j < levels → (at + w ≤ levels * w) × (at + w + (levels - (j + 1)) * w ≡ levels * w)
 room at w levels j e h =
     let m : ℕ = levels - (j + 1) in
     let em : levels - j ≡ suc m = omega arith in
     let f = rw (em, suc-mul) at e in
     (omega arith, omega arith)
 
-pub halves : (levels j n : ℕ) → 2 ^ (levels - j) ≤ n → j < levels → 2 ^ (levels - (j + 1)) ≤ n / 2
+halves : (levels j n : ℕ) → 2 ^ (levels - j) ≤ n → j < levels → 2 ^ (levels - (j + 1)) ≤ n / 2
 halves levels j n h l =
     let m : ℕ = levels - (j + 1) in
     let em : levels - j ≡ suc m = omega arith in
@@ -53,14 +53,6 @@ path_step w ns levels j node k out new other h lo inv eo en ln =
     let high : n / 2 < 512 = let u = inv.1 in omega arith in
     let whole = path_more w ns levels j node n (j * w) k out new other h lo (parts w levels j (omega arith)) inv.2 eo en ln in
     (rw (← again) low, rw (← again) high, rw (← again, ← more) whole)
-
-pub path_all : (w : ℕ) (ns : List (List ℕ)) (levels j node n at : ℕ) (out : List ℕ) → levels ≤ j → length out ≡ levels * w → at + (levels - j) * w ≡ levels * w → take at out ++ siblings_from ns (levels - j) n ≡ siblings_from ns levels node → out ≡ siblings_from ns levels node
-path_all w ns levels j node n at out h lo ea ep =
-    let z : levels - j ≡ 0 = omega arith in
-    let f = rw (z, zero-mul) at ea in
-    let a : at ≡ levels * w = omega arith in
-    let p = rw z at ep in
-    sym (append-nil out) ∙ ap (λ (t : List ℕ). t ++ []) (sym (take_all at out (omega arith))) ∙ p
 
 -- the nodes that a tree of that depth has
 pub node_kept : (d i : ℕ) (ns : List (List ℕ)) → 1 ≤ i → i < 2 * 2 ^ d → get_or (closed_in d ns).nodes i [] ≡ node_at ns i
