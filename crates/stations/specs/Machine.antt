@@ -8,6 +8,7 @@ use Rattle.model.specs.Lots.{Station, idle, busy, is_idle, lacks, begun_for, fed
 use Rattle.stations.specs.declared.station.Record.{Record}
 use Rattle.stations.specs.declared.station.Station as program
 
+-- what a record in hand shows, or none
 abbrev pub in_hand : ℕ → ℕ → Option Record → Station
 in_hand c w None = idle
 in_hand c w (Some r) = busy r.place r.length r.got (held c w r.sponge)

@@ -5,6 +5,7 @@ use Rattle.model.specs.Lots.{Station, idle}
 use Rattle.stations.specs.declared.table.Stations.{Stations}
 use Rattle.stations.specs.Machine.{shown}
 
+-- the model's stations that the program's show under a kind
 abbrev pub all_shown : ℕ → ℕ → Stations → List Station
 all_shown c w t = map (shown c w) t.table
 

@@ -59,6 +59,6 @@ impl Stations {
     pub fn abandon<K: Kind>(&mut self, slot: Slot) -> Result<(), Denial>
         ensures { (all_shown K.CAPACITY K.DIGEST self.new, told result) ≡ at_one (all_shown K.CAPACITY K.DIGEST self.old) slot abandon_step }
     {
-        self.table[slot.index()].abandon()
+        self.table[slot.index()].abandon::<K>()
     }
 }

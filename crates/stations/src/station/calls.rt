@@ -76,8 +76,8 @@ impl Station {
         Ok((record.place, record.sponge.finish(kind)))
     }
 
-    pub(crate) fn abandon(&mut self) -> Result<(), Denial>
-        ensures { (c w : ℕ) → (shown c w self.new, told result) ≡ abandon_step (shown c w self.old) }
+    pub(crate) fn abandon<K: Kind>(&mut self) -> Result<(), Denial>
+        ensures { (shown K.CAPACITY K.DIGEST self.new, told result) ≡ abandon_step (shown K.CAPACITY K.DIGEST self.old) }
     {
         match self.record.take() {
             None => Err(Denial::StationIdle),
