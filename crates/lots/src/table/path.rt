@@ -22,8 +22,9 @@ impl<K: Kind> Table<K> {
     {
         for level in 0..levels {
             let at = level * K::DIGEST;
-            let other = self.read(beside(node >> level));
-            out[at..at + K::DIGEST].copy_from_slice(other.words());
+            let other = beside(node >> level);
+            let digest = self.read(other);
+            out[at..at + K::DIGEST].copy_from_slice(digest.words());
         }
     }
 }

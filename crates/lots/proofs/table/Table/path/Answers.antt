@@ -8,5 +8,5 @@ loop-level-preserved g c =
     let new = c.copy_from_slice.new.self in
     let long : length c.loop-level.out ≡ c.args.levels * w = c.loop-level.auto.out ∙ c.requires.long in
     rw c.DIGEST.ensures
-    (path_step w c.args.self.now.nodes.items c.args.levels c.loop-level.level c.args.node _ c.loop-level.out new c.beside.result (omega arith) long c.loop-level.invariant c.beside.ensures
-    (c.copy_from_slice.ensures.after ∙ c.words.ensures.is ∙ c.read-other.ensures) (ap length c.copy_from_slice.ensures.after ∙ c.words.ensures.state.long))
+    (path_step w c.args.self.now.nodes.items c.args.levels c.loop-level.level c.args.node _ c.loop-level.out new c.beside-other.result (omega arith) long c.loop-level.invariant c.beside-other.ensures
+    (c.copy_from_slice.ensures.after ∙ c.words.ensures.is ∙ c.read-digest.ensures) (ap length c.copy_from_slice.ensures.after ∙ c.words.ensures.state.long))
