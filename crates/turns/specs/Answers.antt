@@ -1,12 +1,15 @@
 -- The line of each answer.
-use Rattle.std.specs.Prelude.{ℕ, List, [], ◌∷◌, slice_index_or}
+use Rattle.std.specs.Prelude.{◌≡◌, ℕ, List, [], ◌∷◌, Ok, Err, Result, slice_index_or}
 use Rattle.kinds.specs.declared.denial.Layer.{Layer}
 use Rattle.kinds.specs.declared.denial.Layer.TheVariants as layer
+use Rattle.kinds.specs.declared.denial.Denial.{Denial}
 use Rattle.kinds.specs.Answers.{Answer, granted, denied}
-use Rattle.lines.specs.Lines.{no_line}
+use Rattle.kinds.specs.Denials.{told}
+use Rattle.lines.specs.Lines.{no_line, numbers_line, heading_word}
+use Rattle.lines.specs.declared.writing.Heading.{Heading}
 use Rattle.reader.specs.declared.fault.ScriptFault.{ScriptFault}
 use Rattle.reader.specs.declared.fault.ScriptFault.TheVariants as fault
-use Rattle.reader.specs.Faults.{number_of, layer_of}
+use Rattle.reader.specs.Faults.{number_of, layer_of, values_of}
 
 -- the layers of the refusals of a lot, by their numbers from 0 on
 abbrev pub layers : List Layer
@@ -22,14 +25,22 @@ abbrev pub answer_line : Answer → List ℕ → ℕ → List ℕ
 answer_line granted line at = line
 answer_line (denied n vs) line at = denied_line n at
 
--- the script's own faults have their offset
+-- a fault of the script's own has its offset
 abbrev pub offset_of : ScriptFault → ℕ → ℕ
-offset_of (fault.UnknownCommand own) at = own
-offset_of (fault.CutShort own) at = own
-offset_of (fault.OutOfPhase own) at = own
-offset_of fault.TooLong at = 0
-offset_of (fault.UnknownKind own) at = own
 offset_of (fault.Denied d) at = at
+offset_of f at = slice_index_or (values_of f) 0 at
 
 abbrev pub fault_line : ScriptFault → ℕ → List ℕ
 fault_line f at = no_line (number_of f) (layer_of f) (offset_of f at)
+
+-- what a command gives: its line, or that of the fault in its place
+abbrev pub line_told : Result (List ℕ) ScriptFault → ℕ → List ℕ
+line_told (Ok line) at = line
+line_told (Err f) at = fault_line f at
+
+-- the line of the numbers that a call leaves, by what the call may answer and leave
+pub record Written (May : Result (Unit {0}) Denial → List ℕ → Type 0) (heading : Heading) (line : Result (List ℕ) ScriptFault) : Type 0 where
+  pub answer : Result (Unit {0}) Denial
+  pub words : List ℕ
+  pub may : May answer words
+  pub tells : (at : ℕ) → line_told line at ≡ answer_line (told answer) (numbers_line (heading_word heading) words) at

@@ -1,10 +1,10 @@
-ghost use Rattle.std.specs.Prelude.{◌≡◌};
-ghost use Rattle.kinds.specs.Denials.{told};
-ghost use Rattle.turns.specs.Answers.{offset_of, fault_line, answer_line};
+ghost use Rattle.std.specs.Prelude.{◌≡◌, ◌≤◌, replicate};
+ghost use Rattle.std.specs.Fn.{FnOnceReturnsAtMut};
+ghost use Rattle.turns.specs.Answers.{offset_of, fault_line, line_told, Written};
 
 use kinds::denial::Denial;
 use lines::line::Line;
-use lines::writing::no_line;
+use lines::writing::{Heading, no_line};
 use reader::fault::ScriptFault;
 
 // A line of a transcript. None has more bytes.
@@ -15,12 +15,8 @@ fn offset_of(fault: ScriptFault, at: usize) -> usize
     ensures { result ≡ offset_of fault at }
 {
     match fault {
-        ScriptFault::UnknownCommand(own)
-        | ScriptFault::CutShort(own)
-        | ScriptFault::OutOfPhase(own)
-        | ScriptFault::UnknownKind(own) => own,
-        ScriptFault::TooLong => 0,
         ScriptFault::Denied(_) => at,
+        own => own.value().unwrap_or(at),
     }
 }
 
@@ -30,12 +26,25 @@ pub fn fault_line(fault: ScriptFault, at: usize) -> ScriptLine
     no_line(fault.number(), fault.layer(), offset_of(fault, at))
 }
 
-// The line of a call: the one given where it is granted, else its refusal.
-pub fn answer_line(answer: Result<(), Denial>, granted: ScriptLine, at: usize) -> ScriptLine
-    ensures { result ≡ answer_line (told answer) granted at }
+// The line of a command: its own, or that of the fault in its place.
+pub fn answer_line(answer: Result<ScriptLine, ScriptFault>, at: usize) -> ScriptLine
+    ensures { result ≡ line_told answer at }
 {
-    match answer {
-        Ok(()) => granted,
-        Err(denial) => fault_line(ScriptFault::from(denial), at),
-    }
+    answer.unwrap_or_else(|fault| fault_line(fault, at))
+}
+
+// The line of the numbers that a call writes: a path of at most 8 digests of at most 5 words, or a digest.
+pub(crate) fn written<F: FnOnce(&mut [u64]) -> Result<(), Denial>>(
+    heading: Heading,
+    count: usize,
+    write: F,
+) -> Result<ScriptLine, ScriptFault>
+    requires short { count ≤ 40 }
+    requires callable { F.IsAlwaysCallable write }
+    ensures { Written (λ answer words. FnOnceReturnsAtMut F.FnOnce write (replicate count 0) answer words) heading result }
+{
+    let mut zeros = [0; 40];
+    let words = &mut zeros[..count];
+    write(words)?;
+    Ok(heading.line(words))
 }

@@ -1,2 +1,0 @@
-pub mod Layers
-pub mod Lining
