@@ -1,6 +1,6 @@
 ghost use Rattle.std.specs.Prelude.{◌≡◌};
 ghost use Rattle.script.specs.Stages.{any_filled, any_closed, any_asked};
-ghost use Rattle.script.specs.Shown.{shown_lot, shown_closed};
+ghost use Rattle.script.specs.Shown.{shown_kind};
 
 use kinds::drill::Drill;
 use lots::closed::ClosedLot;
@@ -12,58 +12,54 @@ use turns::answers::ScriptLine;
 use turns::asking::ask;
 use turns::filling::fill;
 
-// A lot of one of the kinds that a script can name.
+// What is of one of the kinds that a script can name.
 #[derive(Drop)]
-pub enum AnyLot {
-    Drill(Lot<Drill>),
-    Rpo128(Lot<Rpo128>),
-    Rpo160(Lot<Rpo160>),
+pub enum OfKind<A, B, C> {
+    Drill(A),
+    Rpo128(B),
+    Rpo160(C),
 }
 
-// Such a lot once it is closed.
-#[derive(Drop)]
-pub enum AnyClosed {
-    Drill(ClosedLot<Drill>),
-    Rpo128(ClosedLot<Rpo128>),
-    Rpo160(ClosedLot<Rpo160>),
-}
+pub type AnyLot = OfKind<Lot<Drill>, Lot<Rpo128>, Lot<Rpo160>>;
 
-impl AnyLot {
+pub type AnyClosed = OfKind<ClosedLot<Drill>, ClosedLot<Rpo128>, ClosedLot<Rpo160>>;
+
+impl OfKind<Lot<Drill>, Lot<Rpo128>, Lot<Rpo160>> {
     // Runs a command that is in its phase, and gives its line.
-    #[tactic(auto, unfolding(crate::specs::Shown::shown_lot))]
+    #[tactic(auto, unfolding(crate::specs::Shown::shown_kind))]
     pub(crate) fn fill(&mut self, order: Order, at: usize) -> ScriptLine
-        ensures after { shown_lot self.new ≡ (any_filled (shown_lot self.old) order at).0 }
-        ensures line { result ≡ (any_filled (shown_lot self.old) order at).1 }
+        ensures after { shown_kind self.new ≡ (any_filled (shown_kind self.old) order at).0 }
+        ensures line { result ≡ (any_filled (shown_kind self.old) order at).1 }
     {
         match self {
-            AnyLot::Drill(lot) => fill(lot, order, at),
-            AnyLot::Rpo128(lot) => fill(lot, order, at),
-            AnyLot::Rpo160(lot) => fill(lot, order, at),
+            OfKind::Drill(lot) => fill(lot, order, at),
+            OfKind::Rpo128(lot) => fill(lot, order, at),
+            OfKind::Rpo160(lot) => fill(lot, order, at),
         }
     }
 
-    #[tactic(auto, unfolding(crate::specs::Shown::shown_lot, crate::specs::Shown::shown_closed, crate::specs::Stages::any_closed))]
+    #[tactic(auto, unfolding(crate::specs::Shown::shown_kind, crate::specs::Stages::any_closed))]
     pub(crate) fn close(self) -> AnyClosed
-        ensures { shown_closed result ≡ any_closed (shown_lot self) }
+        ensures { shown_kind result ≡ any_closed (shown_kind self) }
     {
         match self {
-            AnyLot::Drill(lot) => AnyClosed::Drill(lot.close()),
-            AnyLot::Rpo128(lot) => AnyClosed::Rpo128(lot.close()),
-            AnyLot::Rpo160(lot) => AnyClosed::Rpo160(lot.close()),
+            OfKind::Drill(lot) => OfKind::Drill(lot.close()),
+            OfKind::Rpo128(lot) => OfKind::Rpo128(lot.close()),
+            OfKind::Rpo160(lot) => OfKind::Rpo160(lot.close()),
         }
     }
 }
 
-impl AnyClosed {
+impl OfKind<ClosedLot<Drill>, ClosedLot<Rpo128>, ClosedLot<Rpo160>> {
     // Runs a command that is in its phase, and gives its line.
-    #[tactic(auto, unfolding(crate::specs::Shown::shown_closed))]
+    #[tactic(auto, unfolding(crate::specs::Shown::shown_kind))]
     pub(crate) fn ask(&self, order: Order, at: usize) -> ScriptLine
-        ensures { result ≡ any_asked (shown_closed self.now) order at }
+        ensures { result ≡ any_asked (shown_kind self.now) order at }
     {
         match self {
-            AnyClosed::Drill(lot) => ask(lot, order, at),
-            AnyClosed::Rpo128(lot) => ask(lot, order, at),
-            AnyClosed::Rpo160(lot) => ask(lot, order, at),
+            OfKind::Drill(lot) => ask(lot, order, at),
+            OfKind::Rpo128(lot) => ask(lot, order, at),
+            OfKind::Rpo160(lot) => ask(lot, order, at),
         }
     }
 }

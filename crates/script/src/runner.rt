@@ -1,7 +1,7 @@
 ghost use Rattle.std.specs.Prelude.{◌≡◌, IfOk};
 ghost use Rattle.reader.specs.Commands.{told, all_told};
-ghost use Rattle.script.specs.Runs.{fresh, next_command, turn, next_line, Promised};
-ghost use Rattle.script.specs.Shown.{shown};
+ghost use Rattle.script.specs.Runs.{Run, fresh, next_command, turn, next_line, Promised};
+ghost use Rattle.script.specs.Shown.{shown_stage};
 
 use crate::stage::Stage;
 use crate::waiting::Waiting;
@@ -11,7 +11,8 @@ use reader::fault::ScriptFault;
 use reader::orders::Order;
 use reader::reading::read_at;
 use std::alloc::{AllocError, Global};
-use turns::answers::{ScriptLine, fault_line};
+use std::marker::Model;
+use turns::answers::{ScriptLine, answer_line};
 
 // A script that is being run: the place of the next command, and the lot so far.
 #[derive(Drop)]
@@ -21,10 +22,16 @@ pub struct Runner<'a> {
     stage: Stage,
 }
 
+impl<'a> Model for Runner<'a> {
+    ghost Value = { Run };
+
+    ghost view = { λ r. record { script = r.script.now; at = r.at; stage = shown_stage r.stage } };
+}
+
 impl<'a> Runner<'a> {
     // A runner at the start of a script. Nothing later takes memory.
     pub fn new(heap: Global, script: &'a [u8]) -> Result<Runner<'a>, AllocError>
-        ensures { IfOk result (λ x. shown x ≡ fresh script.now) }
+        ensures { IfOk result (λ x. x ≡ fresh script.now) }
     {
         let lots = Waiting::new(heap)?;
         Ok(Runner {
@@ -37,42 +44,44 @@ impl<'a> Runner<'a> {
     // The command that is next, or the fault that stands there; none where the reading is at its end.
     #[tactic(auto, unfolding(crate::specs::Runs::next_command))]
     fn next_command(&self) -> Option<Result<(Command<'a>, usize), ScriptFault>>
-        ensures { all_told result ≡ next_command (shown self.now) }
+        ensures { all_told result ≡ next_command self.now }
     {
         let phase = self.stage.phase()?;
         if self.script.len() > 65536 {
             return Some(Err(ScriptFault::TooLong));
         }
         let at = self.at;
-        match read_at(self.script, at)? {
+        let next = read_at(self.script, at)?;
+        match next {
             Ok((read, _)) if !phase.allows(read.verb) => Some(Err(ScriptFault::OutOfPhase(at))),
-            next => Some(next),
+            _ => Some(next),
         }
     }
 
     // The line of a command, or of a fault of the script, which ends the reading.
     #[tactic(auto, unfolding(crate::specs::Runs::turn))]
     fn turn(&mut self, next: Result<(Command<'_>, usize), ScriptFault>) -> ScriptLine
-        ensures after { shown self.new ≡ (turn (shown self.old) (told next.entry)).0 }
-        ensures line { result ≡ (turn (shown self.old) (told next.entry)).1 }
+        ensures after { self.new ≡ (turn self.old (told next.entry)).0 }
+        ensures line { result ≡ (turn self.old (told next.entry)).1 }
     {
         let at = self.at;
-        match next {
+        let answer = match next {
             Ok((command, after)) => {
                 self.at = after;
                 self.stage.act(Order::from(command), at)
             }
             Err(fault) => {
                 self.stage = Stage::Ended;
-                fault_line(fault, at)
+                Err(fault)
             }
-        }
+        };
+        answer_line(answer, at)
     }
 
     // Writes the next line, and answers how long it is; none where no command is left.
     pub fn next_line(&mut self, out: &mut [u8]) -> Result<Option<usize>, Denial>
-        ensures exact { (shown self.new, out.new, result) ≡ next_line (shown self.old) out.old }
-        ensures promised { Promised (shown self.old) (shown self.new) result }
+        ensures exact { (self.new, out.new, result) ≡ next_line self.old out.old }
+        ensures promised { Promised self.old self.new result }
     {
         if out.len() < 1024 {
             return Err(Denial::BadBuffer);

@@ -1,4 +1,5 @@
 ghost use Rattle.std.specs.Prelude.{◌≡◌};
+ghost use Rattle.turns.specs.Answers.{line_told};
 ghost use Rattle.script.specs.Stages.{act, start_in, close_in, run_in, phase_in};
 ghost use Rattle.script.specs.Shown.{shown_stage};
 
@@ -9,7 +10,7 @@ use reader::fault::ScriptFault;
 use reader::orders::Order;
 use reader::phases::Phase;
 use std::mem;
-use turns::answers::{ScriptLine, fault_line};
+use turns::answers::ScriptLine;
 
 // How far the reading has come, with the lot that it has then.
 #[derive(Drop)]
@@ -33,50 +34,45 @@ impl Stage {
         }
     }
 
-    fn start(&mut self, kind: u8, depth: u8, at: usize) -> ScriptLine
+    fn start(&mut self, kind: u8, depth: u8, at: usize) -> Result<ScriptLine, ScriptFault>
         ensures after { shown_stage self.new ≡ (start_in (shown_stage self.old) kind depth at).0 }
-        ensures line { result ≡ (start_in (shown_stage self.old) kind depth at).1 }
+        ensures line { line_told result at ≡ (start_in (shown_stage self.old) kind depth at).1 }
     {
         let Stage::Before(lots) = mem::replace(self, Stage::Ended) else {
-            return fault_line(ScriptFault::OutOfPhase(at), at);
+            return Err(ScriptFault::OutOfPhase(at));
         };
-        match lots.start(kind, depth, at) {
-            Ok(lot) => {
-                *self = Stage::Filling(lot);
-                ok_line()
-            }
-            Err(fault) => fault_line(fault, at),
-        }
+        *self = Stage::Filling(lots.start(kind, depth, at)?);
+        Ok(ok_line())
     }
 
-    fn close(&mut self, at: usize) -> ScriptLine
+    fn close(&mut self, at: usize) -> Result<ScriptLine, ScriptFault>
         ensures after { shown_stage self.new ≡ (close_in (shown_stage self.old) at).0 }
-        ensures line { result ≡ (close_in (shown_stage self.old) at).1 }
+        ensures line { line_told result at ≡ (close_in (shown_stage self.old) at).1 }
     {
         let Stage::Filling(lot) = mem::replace(self, Stage::Ended) else {
-            return fault_line(ScriptFault::OutOfPhase(at), at);
+            return Err(ScriptFault::OutOfPhase(at));
         };
         *self = Stage::Closed(lot.close());
-        ok_line()
+        Ok(ok_line())
     }
 
     // A command that leaves the phase as it is.
-    fn run(&mut self, order: Order, at: usize) -> ScriptLine
+    fn run(&mut self, order: Order, at: usize) -> Result<ScriptLine, ScriptFault>
         ensures after { shown_stage self.new ≡ (run_in (shown_stage self.old) order at).0 }
-        ensures line { result ≡ (run_in (shown_stage self.old) order at).1 }
+        ensures line { line_told result at ≡ (run_in (shown_stage self.old) order at).1 }
     {
         match self {
-            Stage::Filling(lot) => lot.fill(order, at),
-            Stage::Closed(lot) => lot.ask(order, at),
-            _ => fault_line(ScriptFault::OutOfPhase(at), at),
+            Stage::Filling(lot) => Ok(lot.fill(order, at)),
+            Stage::Closed(lot) => Ok(lot.ask(order, at)),
+            _ => Err(ScriptFault::OutOfPhase(at)),
         }
     }
 
-    // Runs a command that is in its phase, and gives its line.
+    // Runs a command that is in its phase.
     #[tactic(auto, unfolding(crate::specs::Stages::act))]
-    pub(crate) fn act(&mut self, order: Order, at: usize) -> ScriptLine
+    pub(crate) fn act(&mut self, order: Order, at: usize) -> Result<ScriptLine, ScriptFault>
         ensures after { shown_stage self.new ≡ (act (shown_stage self.old) order at).0 }
-        ensures line { result ≡ (act (shown_stage self.old) order at).1 }
+        ensures line { line_told result at ≡ (act (shown_stage self.old) order at).1 }
     {
         match order {
             Order::Start { kind, depth } => self.start(kind, depth, at),

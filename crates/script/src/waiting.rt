@@ -1,8 +1,8 @@
 ghost use Rattle.std.specs.Prelude.{◌≡◌};
 ghost use Rattle.script.specs.Stages.{new_lot, started};
-ghost use Rattle.script.specs.Shown.{shown_made, shown_started};
+ghost use Rattle.script.specs.Shown.{shown_started};
 
-use crate::any::AnyLot;
+use crate::any::{AnyLot, OfKind};
 use kinds::denial::Denial;
 use kinds::drill::Drill;
 use kinds::kind::Kind;
@@ -23,7 +23,7 @@ pub struct Waiting {
 
 // The lot, made anew.
 fn made<K: Kind + Drop>(mut lot: Lot<K>, depth: u8) -> Result<Lot<K>, Denial>
-    ensures { shown_made K.CAPACITY K.DIGEST result ≡ new_lot K.DIGEST depth }
+    ensures { result ≡ new_lot K.DIGEST depth }
 {
     lot.make(depth)?;
     Ok(lot)
@@ -42,7 +42,7 @@ impl Waiting {
     }
 
     // The lot that the start at that place asks for.
-    #[tactic(auto, unfolding(crate::specs::Stages::started, crate::specs::Shown::shown_lot))]
+    #[tactic(auto, unfolding(crate::specs::Stages::started, crate::specs::Shown::shown_kind))]
     pub(crate) fn start(self, kind: u8, depth: u8, at: usize) -> Result<AnyLot, ScriptFault>
         ensures { shown_started result ≡ started kind depth at }
     {
@@ -51,13 +51,11 @@ impl Waiting {
             rpo128,
             rpo160,
         } = self;
-        let Ok(name) = KindName::try_from(kind) else {
-            return Err(ScriptFault::UnknownKind(at));
-        };
+        let name = KindName::try_from(kind).map_err(|_| ScriptFault::UnknownKind(at))?;
         match name {
-            KindName::Drill => Ok(AnyLot::Drill(made(drill, depth)?)),
-            KindName::Rpo128 => Ok(AnyLot::Rpo128(made(rpo128, depth)?)),
-            KindName::Rpo160 => Ok(AnyLot::Rpo160(made(rpo160, depth)?)),
+            KindName::Drill => Ok(OfKind::Drill(made(drill, depth)?)),
+            KindName::Rpo128 => Ok(OfKind::Rpo128(made(rpo128, depth)?)),
+            KindName::Rpo160 => Ok(OfKind::Rpo160(made(rpo160, depth)?)),
         }
     }
 }

@@ -1,17 +1,16 @@
 use Rattle.std.proofs.Common.{◌<◌, sym, subst, ◌∙◌, arith}
 use Rattle.reader.specs.Commands.{told}
 use Rattle.script.specs.Runs.{left}
-use Rattle.script.specs.Shown.{shown}
 use Rattle.script.proofs.Progress.{line_falls, line_copied}
 use Rattle.script.proofs.runner.Runner.next_line.Goals as goal
 
 pub returns : goal.returns
 returns c =
-    let r = shown c.args.self.now in
+    let r = c.args.self.now in
     let x = told c.in-Some.next in
     let line = c.turn-line.ensures in
     record {
-      exact = line_copied r (shown c.turn-line.new.self) c.args.out.now c.copy_from_slice.new.self c.as_bytes-bytes.result.now x (omega arith) c.in-Some.ensures line.after (c.as_bytes-bytes.ensures.is ∙ line.line) c.copy_from_slice.ensures.after;
+      exact = line_copied r c.turn-line.new.self c.args.out.now c.copy_from_slice.new.self c.as_bytes-bytes.result.now x (omega arith) c.in-Some.ensures line.after (c.as_bytes-bytes.ensures.is ∙ line.line) c.copy_from_slice.ensures.after;
       promised = record {
         short = c.as_bytes-bytes.ensures.short;
         falls = subst (λ s. left s < left r) (sym line.after) (line_falls r x c.in-Some.ensures);
