@@ -11,11 +11,8 @@ pub fn whole(heap: Global, script: &[u8]) -> Result<Vec<u8>, AllocError>
     let mut all = Vec::new(heap);
     let mut runner = Runner::new(heap, script)?;
     let mut line = [0u8; 1024];
-    'lines: loop {
-        match runner.next_line(&mut line) {
-            Ok(Some(n)) => all.extend_from_slice(&line[0..n])?,
-            Ok(None) => return Ok(all),
-            Err(_) => return Ok(all),
-        }
+    while let Ok(Some(n)) = runner.next_line(&mut line) {
+        all.extend_from_slice(&line[..n])?;
     }
+    Ok(all)
 }
