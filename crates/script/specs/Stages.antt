@@ -88,15 +88,11 @@ start_with (Err f) at = (ended, fault_line f at)
 
 abbrev pub start_in : Stage → ℕ → ℕ → ℕ → Stage × List ℕ
 start_in before kind depth at = start_with (started kind depth at) at
-start_in (filling l) kind depth at = out_of_phase at
-start_in (closed l) kind depth at = out_of_phase at
-start_in ended kind depth at = out_of_phase at
+start_in s kind depth at = out_of_phase at
 
 abbrev pub close_in : Stage → ℕ → Stage × List ℕ
-close_in before at = out_of_phase at
 close_in (filling l) at = (closed (any_closed l), ok_line)
-close_in (closed l) at = out_of_phase at
-close_in ended at = out_of_phase at
+close_in s at = out_of_phase at
 
 -- a command that leaves the phase as it is
 abbrev pub run_in : Stage → Order → ℕ → Stage × List ℕ
@@ -108,11 +104,4 @@ run_in ended o at = out_of_phase at
 unfoldable pub act : Stage → Order → ℕ → Stage × List ℕ
 act s (order.Start kind depth) at = start_in s kind depth at
 act s order.Close at = close_in s at
-act s (order.Begin st p n) at = run_in s (order.Begin st p n) at
-act s (order.Feed st x) at = run_in s (order.Feed st x) at
-act s (order.FeedEight st xs) at = run_in s (order.FeedEight st xs) at
-act s (order.Seal st) at = run_in s (order.Seal st) at
-act s (order.Abandon st) at = run_in s (order.Abandon st) at
-act s (order.Clear p) at = run_in s (order.Clear p) at
-act s order.Root at = run_in s order.Root at
-act s (order.Open p) at = run_in s (order.Open p) at
+act s o at = run_in s o at

@@ -46,10 +46,7 @@ filled_left kind lot (order.FeedEight s xs) at h = one_more kind lot (feed_eight
 filled_left kind lot (order.Seal s) at h = one_more kind lot (seal s) h
 filled_left kind lot (order.Abandon s) at h = one_more kind lot (abandon s) h
 filled_left kind lot (order.Clear p) at h = one_more kind lot (clear p) h
-filled_left kind lot order.Root at h = h
-filled_left kind lot (order.Start k d) at h = h
-filled_left kind lot (order.Open p) at h = h
-filled_left kind lot order.Close at h = h
+filled_left kind lot o at h = h
 
 made_left : (kind : KindName) (d at : ℕ) → OfCalls (start_with (named_lot kind (new_lot (digest kind) d)) at).0
 made_left kind d at =
@@ -64,16 +61,12 @@ started_left (Some kind) d at = made_left kind d at
 start_left : (s : Stage) (k d at : ℕ) → OfCalls (start_in s k d at).0
 unfolding started
 start_left before k d at = started_left (name_of k) d at
-start_left (filling l) k d at = tt
-start_left (closed l) k d at = tt
-start_left ended k d at = tt
+start_left s k d at = tt
 
 close_left : (s : Stage) (at : ℕ) → OfCalls s → OfCalls (close_in s at).0
 unfolding any_closed
-close_left before at h = tt
 close_left (filling l) at h = record { filled = l.1; left = h; is_closed = refl }
-close_left (closed l) at h = tt
-close_left ended at h = tt
+close_left s at h = tt
 
 run_left : (s : Stage) (o : Order) (at : ℕ) → OfCalls s → OfCalls (run_in s o at).0
 run_left before o at h = tt
@@ -85,14 +78,7 @@ act_left : (s : Stage) (o : Order) (at : ℕ) → OfCalls s → OfCalls (act s o
 unfolding act
 act_left s (order.Start k d) at h = start_left s k d at
 act_left s order.Close at h = close_left s at h
-act_left s (order.Begin st p n) at h = run_left s (order.Begin st p n) at h
-act_left s (order.Feed st x) at h = run_left s (order.Feed st x) at h
-act_left s (order.FeedEight st xs) at h = run_left s (order.FeedEight st xs) at h
-act_left s (order.Seal st) at h = run_left s (order.Seal st) at h
-act_left s (order.Abandon st) at h = run_left s (order.Abandon st) at h
-act_left s (order.Clear p) at h = run_left s (order.Clear p) at h
-act_left s order.Root at h = run_left s order.Root at h
-act_left s (order.Open p) at h = run_left s (order.Open p) at h
+act_left s o at h = run_left s o at h
 
 turn_left : (r : Run) (x : Reading) → OfCalls r.stage → OfCalls (turn r x).0.stage
 unfolding turn

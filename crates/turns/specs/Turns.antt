@@ -27,9 +27,7 @@ module _ (c w : ℕ) (F : List ℕ → List ℕ) where
   filled l (order.Abandon s) at = called l (abandon s) at
   filled l (order.Clear p) at = called l (clear p) at
   filled l order.Root at = (l, root_told l (replicate w 0) at)
-  filled l (order.Start k d) at = (l, fault_line (fault.OutOfPhase at) at)
-  filled l (order.Open p) at = (l, fault_line (fault.OutOfPhase at) at)
-  filled l order.Close at = (l, fault_line (fault.OutOfPhase at) at)
+  filled l o at = (l, fault_line (fault.OutOfPhase at) at)
 
 module _ (w : ℕ) where
   -- the lines of a closed lot's calls, by the buffer
@@ -43,11 +41,4 @@ module _ (w : ℕ) where
   unfoldable pub asked : Closed → Order → ℕ → List ℕ
   asked l order.Root at = closed_root_told l (replicate w 0) at
   asked l (order.Open p) at = open_told l p (replicate (l.depth * w) 0) at
-  asked l (order.Begin s p n) at = fault_line (fault.OutOfPhase at) at
-  asked l (order.Feed s x) at = fault_line (fault.OutOfPhase at) at
-  asked l (order.FeedEight s xs) at = fault_line (fault.OutOfPhase at) at
-  asked l (order.Seal s) at = fault_line (fault.OutOfPhase at) at
-  asked l (order.Abandon s) at = fault_line (fault.OutOfPhase at) at
-  asked l (order.Clear p) at = fault_line (fault.OutOfPhase at) at
-  asked l (order.Start k d) at = fault_line (fault.OutOfPhase at) at
-  asked l order.Close at = fault_line (fault.OutOfPhase at) at
+  asked l o at = fault_line (fault.OutOfPhase at) at
