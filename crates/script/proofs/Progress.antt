@@ -1,6 +1,6 @@
 -- Each line is what the definition says, and with it less of the script is left to read.
-use Rattle.std.proofs.Common.{◌≡◌, ℕ, ◌+◌, ◌-◌, ◌<◌, ◌≤◌, Bool, true, false, ltb, leb, List, ◌++◌, length, drop, get_or, Some, None, Ok, Err, Option, Result, sym, refl, ap, subst, arith}
-use Rattle.std.proofs.lemmas.Bool.{cond_both, leb-true, le-ltb, true≢false}
+use Rattle.std.proofs.Common.{◌≡◌, ℕ, ◌+◌, ◌-◌, ◌<◌, ◌≤◌, ltb, leb, List, ◌++◌, length, drop, get_or, Some, None, Ok, Err, Option, Result, sym, refl, subst, arith}
+use Rattle.std.proofs.lemmas.Bool.{cond_both, leb-true, le-ltb}
 use Rattle.kinds.specs.declared.denial.Denial.{Denial}
 use Rattle.reader.specs.declared.verbs.Verb.{Verb}
 use Rattle.reader.specs.declared.phases.Phase.{Phase}
@@ -46,13 +46,9 @@ at_most : (p : Option Phase) (n : ℕ) → left_by p n ≤ n + 1
 at_most None n = omega arith
 at_most (Some p) n = omega arith
 
-abbrev is_some : Option Reading → Bool
-is_some None = false
-is_some (Some x) = true
-
 -- a run that is not at its end has something left
 more_left : (p : Option Phase) (r : Run) (x : Reading) (n : ℕ) → Some x ≡ next_in p r → left_by p n ≡ n + 1
-more_left None r x n e = absurd (true≢false (ap is_some e))
+more_left None r x n e = absurd cc
 more_left (Some p) r x n e = refl
 
 pub line_falls : (r : Run) (x : Reading) → Some x ≡ next_command r → left (turn r x).0 < left r

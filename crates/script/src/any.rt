@@ -24,7 +24,7 @@ pub type AnyLot = OfKind<Lot<Drill>, Lot<Rpo128>, Lot<Rpo160>>;
 
 pub type AnyClosed = OfKind<ClosedLot<Drill>, ClosedLot<Rpo128>, ClosedLot<Rpo160>>;
 
-impl OfKind<Lot<Drill>, Lot<Rpo128>, Lot<Rpo160>> {
+impl AnyLot {
     // Runs a command that is in its phase, and gives its line.
     #[tactic(auto, unfolding(crate::specs::Shown::shown_kind))]
     pub(crate) fn fill(&mut self, order: Order, at: usize) -> ScriptLine
@@ -32,9 +32,9 @@ impl OfKind<Lot<Drill>, Lot<Rpo128>, Lot<Rpo160>> {
         ensures line { result ≡ (any_filled (shown_kind self.old) order at).1 }
     {
         match self {
-            OfKind::Drill(lot) => fill(lot, order, at),
-            OfKind::Rpo128(lot) => fill(lot, order, at),
-            OfKind::Rpo160(lot) => fill(lot, order, at),
+            AnyLot::Drill(lot) => fill(lot, order, at),
+            AnyLot::Rpo128(lot) => fill(lot, order, at),
+            AnyLot::Rpo160(lot) => fill(lot, order, at),
         }
     }
 
@@ -43,23 +43,23 @@ impl OfKind<Lot<Drill>, Lot<Rpo128>, Lot<Rpo160>> {
         ensures { shown_kind result ≡ any_closed (shown_kind self) }
     {
         match self {
-            OfKind::Drill(lot) => OfKind::Drill(lot.close()),
-            OfKind::Rpo128(lot) => OfKind::Rpo128(lot.close()),
-            OfKind::Rpo160(lot) => OfKind::Rpo160(lot.close()),
+            AnyLot::Drill(lot) => AnyClosed::Drill(lot.close()),
+            AnyLot::Rpo128(lot) => AnyClosed::Rpo128(lot.close()),
+            AnyLot::Rpo160(lot) => AnyClosed::Rpo160(lot.close()),
         }
     }
 }
 
-impl OfKind<ClosedLot<Drill>, ClosedLot<Rpo128>, ClosedLot<Rpo160>> {
+impl AnyClosed {
     // Runs a command that is in its phase, and gives its line.
     #[tactic(auto, unfolding(crate::specs::Shown::shown_kind))]
     pub(crate) fn ask(&self, order: Order, at: usize) -> ScriptLine
         ensures { result ≡ any_asked (shown_kind self.now) order at }
     {
         match self {
-            OfKind::Drill(lot) => ask(lot, order, at),
-            OfKind::Rpo128(lot) => ask(lot, order, at),
-            OfKind::Rpo160(lot) => ask(lot, order, at),
+            AnyClosed::Drill(lot) => ask(lot, order, at),
+            AnyClosed::Rpo128(lot) => ask(lot, order, at),
+            AnyClosed::Rpo160(lot) => ask(lot, order, at),
         }
     }
 }

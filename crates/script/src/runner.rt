@@ -22,6 +22,7 @@ pub struct Runner<'a> {
     stage: Stage,
 }
 
+// Clauses see the run that it has in hand.
 impl<'a> Model for Runner<'a> {
     ghost Value = { Run };
 

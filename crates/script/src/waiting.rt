@@ -2,7 +2,7 @@ ghost use Rattle.std.specs.Prelude.{◌≡◌};
 ghost use Rattle.script.specs.Stages.{new_lot, started};
 ghost use Rattle.script.specs.Shown.{shown_started};
 
-use crate::any::{AnyLot, OfKind};
+use crate::any::AnyLot;
 use kinds::denial::Denial;
 use kinds::drill::Drill;
 use kinds::kind::Kind;
@@ -53,9 +53,9 @@ impl Waiting {
         } = self;
         let name = KindName::try_from(kind).map_err(|_| ScriptFault::UnknownKind(at))?;
         match name {
-            KindName::Drill => Ok(OfKind::Drill(made(drill, depth)?)),
-            KindName::Rpo128 => Ok(OfKind::Rpo128(made(rpo128, depth)?)),
-            KindName::Rpo160 => Ok(OfKind::Rpo160(made(rpo160, depth)?)),
+            KindName::Drill => Ok(AnyLot::Drill(made(drill, depth)?)),
+            KindName::Rpo128 => Ok(AnyLot::Rpo128(made(rpo128, depth)?)),
+            KindName::Rpo160 => Ok(AnyLot::Rpo160(made(rpo160, depth)?)),
         }
     }
 }
