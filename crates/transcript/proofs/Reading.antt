@@ -1,12 +1,8 @@
 -- The laws of a reading, from the definitions.
-use Rattle.std.proofs.Common.{◌≡◌, ℕ, ◌<◌, ◌≤◌, List, length, None, Ok, Err, refl}
+use Rattle.std.proofs.Common.{◌≡◌, length, refl}
 use Rattle.std.proofs.lemmas.Bool.{lt-ltb, le-ltb}
-use Rattle.kinds.specs.declared.denial.Denial.TheVariants as denial
-use Rattle.reader.specs.declared.orders.Order.{Order}
-use Rattle.reader.specs.declared.orders.Order.TheVariants as order
-use Rattle.reader.specs.declared.fault.ScriptFault.{ScriptFault}
-use Rattle.script.specs.Stages.{Stage, before, filling, closed, ended, phase_in, started, run_in, act}
-use Rattle.script.specs.Runs.{Run, turn, next_command, next_line}
+use Rattle.script.specs.Stages.{before, filling, closed, ended, phase_in, run_in, act}
+use Rattle.script.specs.Runs.{turn, next_command}
 use Rattle.transcript.specs.Laws.{ReadingLaws}
 
 pub reading_laws : ReadingLaws

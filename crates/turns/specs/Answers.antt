@@ -38,9 +38,13 @@ abbrev pub line_told : Result (List ℕ) ScriptFault → ℕ → List ℕ
 line_told (Ok line) at = line
 line_told (Err f) at = fault_line f at
 
--- the line of the numbers that a call leaves, by what the call may answer and leave
+-- the line of a call that leaves numbers in a buffer
+abbrev pub numbers_told : Heading → Answer × List ℕ → ℕ → List ℕ
+numbers_told heading x at = answer_line x.0 (numbers_line (heading_word heading) x.1) at
+
+-- such a line, by what the call may answer and leave
 pub record Written (May : Result (Unit {0}) Denial → List ℕ → Type 0) (heading : Heading) (line : Result (List ℕ) ScriptFault) : Type 0 where
   pub answer : Result (Unit {0}) Denial
   pub words : List ℕ
   pub may : May answer words
-  pub tells : (at : ℕ) → line_told line at ≡ answer_line (told answer) (numbers_line (heading_word heading) words) at
+  pub tells : (at : ℕ) → line_told line at ≡ numbers_told heading (told answer, words) at

@@ -10,7 +10,7 @@ use reader::fault::ScriptFault;
 use reader::orders::Order;
 
 // Runs a command that is in its phase.
-#[tactic(auto, unfolding(crate::specs::Turns::asked, crate::specs::Turns::closed_root_told, crate::specs::Turns::open_told))]
+#[tactic(auto, unfolding(crate::specs::Turns::asked))]
 fn try_ask<K: Kind>(lot: &ClosedLot<K>, order: Order, at: usize) -> Result<ScriptLine, ScriptFault>
     requires { K.DIGEST ≤ 5 }
     ensures { line_told result at ≡ asked K.DIGEST lot.now order at }

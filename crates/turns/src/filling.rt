@@ -10,7 +10,7 @@ use reader::fault::ScriptFault;
 use reader::orders::Order;
 
 // Runs a command that is in its phase.
-#[tactic(auto, unfolding(crate::specs::Turns::filled, crate::specs::Turns::root_told))]
+#[tactic(auto, unfolding(crate::specs::Turns::filled))]
 fn try_fill<K: Kind>(lot: &mut Lot<K>, order: Order, at: usize) -> Result<ScriptLine, ScriptFault>
     ensures after { lot.new ≡ (filled K.CAPACITY K.DIGEST K.mapping lot.old order at).0 }
     ensures line { line_told result at ≡ (filled K.CAPACITY K.DIGEST K.mapping lot.old order at).1 }

@@ -1,7 +1,7 @@
-use Rattle.std.proofs.Common.{◌≡◌, ◌+◌, ◌<◌, ◌++◌, length, take, Some, None, Ok, vec_items, refl, arith, rules}
-use Rattle.script.specs.Runs.{fresh, next_line, left}
+use Rattle.std.proofs.Common.{◌+◌, length, refl, arith, rules}
+use Rattle.script.specs.Runs.{fresh}
 use Rattle.transcript.specs.Transcripts.{transcript}
-use Rattle.transcript.proofs.Going.{Out, going_first, going_more, going_all}
+use Rattle.transcript.proofs.Going.{going_first, going_more, going_all}
 use Rattle.transcript.proofs.all_lines.whole.Goals as goal
 use Rattle.transcript.proofs.all_lines.whole.Goals.{in_default, in_default-2}
 
