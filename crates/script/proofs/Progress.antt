@@ -1,5 +1,5 @@
 -- Each line is what the definition says, and with it less of the script is left to read.
-use Rattle.std.proofs.Common.{◌≡◌, ℕ, ◌+◌, ◌-◌, ◌<◌, ◌≤◌, ltb, leb, List, ◌++◌, length, drop, get_or, Some, None, Ok, Err, Option, Result, sym, refl, subst, arith}
+use Rattle.std.proofs.Common.{◌≡◌, ℕ, ◌+◌, ◌-◌, ◌<◌, ◌≤◌, ltb, leb, List, ◌++◌, length, drop, get_or, Some, None, Ok, Err, Option, Result, IfOk, IfSome, sym, refl, subst, arith}
 use Rattle.std.proofs.lemmas.Bool.{cond_both, leb-true, le-ltb}
 use Rattle.kinds.specs.declared.denial.Denial.{Denial}
 use Rattle.reader.specs.declared.verbs.Verb.{Verb}
@@ -12,12 +12,10 @@ use Rattle.script.specs.Runs.{Run, phased, next_in, next_command, turn, next_lin
 
 -- a command that is read ends after its place and within the script
 abbrev On : List ℕ → ℕ → Reading → Type 0
-On s at (Ok x) = (at < x.1) × (x.1 ≤ length s)
-On s at (Err e) = Unit {0}
+On s at r = IfOk r (λ x. (at < x.1) × (x.1 ≤ length s))
 
 abbrev OnAny : List ℕ → ℕ → Option Reading → Type 0
-OnAny s at None = Unit {0}
-OnAny s at (Some x) = On s at x
+OnAny s at o = IfSome o (On s at)
 
 on_as : (s : List ℕ) (at : ℕ) (v : Option Verb) → On s at (read_as s at v)
 on_as s at None = tt
