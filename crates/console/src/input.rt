@@ -2,7 +2,7 @@ ghost use Rattle.std.specs.Prelude.{◌≤◌, IfOk, vec_len};
 
 use rpo_kinds::names::KindName;
 use std::alloc::{AllocError, AllocFailed};
-use std::io::Read;
+use std::io::{ErrorKind, Read};
 use std::{fmt, io};
 
 // Why an input could not be read.
@@ -30,8 +30,11 @@ impl<T: Drop> From<AllocFailed<T>> for Unread {
 }
 
 impl From<io::Error> for Unread {
-    fn from(_e: io::Error) -> Unread {
-        Unread::Broken
+    fn from(e: io::Error) -> Unread {
+        match e.kind() {
+            ErrorKind::OutOfMemory => Unread::NoMemory,
+            _ => Unread::Broken,
+        }
     }
 }
 
@@ -62,19 +65,12 @@ pub fn slurp(rt: &HostRuntime) -> Result<Vec<u8>, Unread>
     ensures { IfOk result (λ v. vec_len v ≤ 1048576) }
 {
     let mut all = Vec::new(rt.alloc());
-    let mut part = [0u8; 4096];
-    let mut stdin = rt.stdin();
-    for _ in 0..=MOST_BYTES {
-        let n = stdin.read(&mut part)?;
-        if n == 0 {
-            return Ok(all);
-        }
-        all.extend_from_slice(&part[0..n])?;
-        if all.len() > MOST_BYTES {
-            return Err(Unread::TooLong);
-        }
+    let most = MOST_BYTES as u64 + 1;
+    rt.stdin().take(most).read_to_end(&mut all)?;
+    if all.len() > MOST_BYTES {
+        return Err(Unread::TooLong);
     }
-    Err(Unread::TooLong)
+    Ok(all)
 }
 
 // All of standard input as a text.

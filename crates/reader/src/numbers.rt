@@ -1,6 +1,8 @@
 ghost use Rattle.std.specs.Prelude.{◌≡◌, ◌+◌, ◌≤◌, slice_index};
 ghost use Rattle.reader.specs.Numbers.{little, eight, cut};
 
+use std::array;
+
 // Numbers from bytes, the least significant first; a byte past the end counts as 0.
 
 pub fn byte_at(bytes: &[u8], at: usize) -> u8
@@ -14,11 +16,7 @@ fn bytes_at<const N: usize>(bytes: &[u8], at: usize) -> [u8; N]
     requires { at + N ≤ 128 }
     ensures { result ≡ cut bytes.now at N }
 {
-    let mut part = [0; N];
-    for (i, byte) in part.iter_mut().enumerate() {
-        *byte = byte_at(bytes, at + i);
-    }
-    part
+    array::from_fn(|i| byte_at(bytes, at + i))
 }
 
 pub(crate) fn u16_at(bytes: &[u8], at: usize) -> u16
@@ -39,9 +37,5 @@ pub(crate) fn u64_at(bytes: &[u8], at: usize) -> u64
 pub(crate) fn eight_words(bytes: &[u8]) -> [u64; 8]
     ensures { result ≡ eight bytes.now 1 }
 {
-    let mut words = [0; 8];
-    for (i, word) in words.iter_mut().enumerate() {
-        *word = u64_at(bytes, 1 + 8 * i);
-    }
-    words
+    array::from_fn(|i| u64_at(bytes, 1 + 8 * i))
 }

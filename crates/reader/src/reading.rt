@@ -1,21 +1,24 @@
-ghost use Rattle.std.specs.Prelude.{◌≡◌, ◌<◌, length};
+ghost use Rattle.std.specs.Prelude.{◌≡◌, ◌<◌, length, slice_index};
 ghost use Rattle.reader.specs.Commands.{told, read_command, all_told, read_at};
 
 use crate::commands::Command;
 use crate::fault::ScriptFault;
 use crate::verbs::Verb;
 
-// The command at a place within the script, and the place after it.
-fn read_command<'a>(script: &'a [u8], at: usize) -> Result<(Command<'a>, usize), ScriptFault>
-    requires { at < length script.now }
+// The command that begins with the byte at a place of the script, and the place after it.
+fn read_command<'a>(
+    script: &'a [u8],
+    at: usize,
+    first: u8,
+) -> Result<(Command<'a>, usize), ScriptFault>
+    requires within { at < length script.now }
+    requires there { first ≡ slice_index script.now at }
     ensures { told result ≡ read_command script.now at }
 {
-    let Ok(verb) = Verb::try_from(script[at]) else {
-        return Err(ScriptFault::UnknownCommand(at));
-    };
-    let Some(operands) = script[at + 1..].get(..verb.width()) else {
-        return Err(ScriptFault::CutShort(at));
-    };
+    let verb = Verb::try_from(first).map_err(|_| ScriptFault::UnknownCommand(at))?;
+    let operands = script[at + 1..]
+        .get(..verb.width())
+        .ok_or(ScriptFault::CutShort(at))?;
     Ok((Command { verb, operands, at }, at + 1 + operands.len()))
 }
 
@@ -23,8 +26,6 @@ fn read_command<'a>(script: &'a [u8], at: usize) -> Result<(Command<'a>, usize),
 pub fn read_at<'a>(script: &'a [u8], at: usize) -> Option<Result<(Command<'a>, usize), ScriptFault>>
     ensures { all_told result ≡ read_at script.now at }
 {
-    if at >= script.len() {
-        return None;
-    }
-    Some(read_command(script, at))
+    let first = script.get(at)?;
+    Some(read_command(script, at, *first))
 }
