@@ -1,6 +1,7 @@
 ghost use Rattle.std.specs.Prelude.{◌≡◌, ℕ, ◌+◌, ◌≤◌, List, [], ◌++◌, length, take, decimal};
 ghost use Rattle.lines.specs.Lines.{spaced};
 
+use itoa::Buffer;
 use std::marker::Model;
 
 // A line of at most `N` bytes, in memory of its own. Clauses see its bytes.
@@ -51,10 +52,7 @@ impl<const N: usize> Line<N> {
         ensures written { self.new ≡ self.old ++ decimal n }
         ensures short { length self.new ≤ length self.old + 20 }
     {
-        if n >= 10 {
-            self.push_number(n / 10);
-        }
-        self.push_text(&[48 + (n % 10) as u8]);
+        self.push_text(Buffer::new().format(n).as_bytes());
     }
 
     // A space and the number.
