@@ -10,10 +10,21 @@ mod tests {
     use rpo_kinds::rpo128::Rpo128;
     use rpo_kinds::rpo160::Rpo160;
     use sponge::digest::digest;
-    use std::alloc::{AllocError, Global};
+    use std::alloc::Global;
     use std::test::Fail;
 
-    fn check_eq(got: Option<Denial>, want: Option<Denial>) -> Result<(), Fail> {
+    // The digest of n equal words into that much room is answered as it should be.
+    fn check_answer<K: Kind>(
+        heap: Global,
+        kind: &K,
+        n: usize,
+        word: u64,
+        room: usize,
+        want: Result<(), Denial>,
+    ) -> Result<(), Fail> {
+        let words = vec![in heap; word; n]?;
+        let mut out = vec![in heap; 9u64; room]?;
+        let got = digest(kind, &words, &mut out);
         if got == want {
             Ok(())
         } else {
@@ -21,33 +32,17 @@ mod tests {
         }
     }
 
-    // What the digest of n equal words is answered.
-    fn answer<K: Kind>(
-        heap: Global,
-        kind: &K,
-        n: usize,
-        word: u64,
-        room: usize,
-    ) -> Result<Option<Denial>, AllocError> {
-        let words = vec![in heap; word; n]?;
-        let mut out = vec![in heap; 9u64; room]?;
-        match digest(kind, &words, &mut out) {
-            Ok(()) => Ok(None),
-            Err(why) => Ok(Some(why)),
-        }
-    }
-
     fn lengths<K: Kind>(heap: Global, kind: &K) -> Result<(), Fail> {
         let w = K::DIGEST;
         let r = K::rate();
         for n in [1, r - 1, r, r + 1, 2 * r, 4096] {
-            check_eq(answer(heap, kind, n, P - 1, w)?, None)?;
+            check_answer(heap, kind, n, P - 1, w, Ok(()))?;
         }
         for n in [0, 4097] {
-            check_eq(answer(heap, kind, n, P, w + 1)?, Some(Denial::BadLength))?;
+            check_answer(heap, kind, n, P, w + 1, Err(Denial::BadLength))?;
         }
-        check_eq(answer(heap, kind, r, P, w + 1)?, Some(Denial::BadBuffer))?;
-        check_eq(answer(heap, kind, r, P, w)?, Some(Denial::NotElement(0)))
+        check_answer(heap, kind, r, P, w + 1, Err(Denial::BadBuffer))?;
+        check_answer(heap, kind, r, P, w, Err(Denial::NotElement(0)))
     }
 
     #[test]
