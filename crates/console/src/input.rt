@@ -1,6 +1,6 @@
 ghost use Rattle.std.specs.Prelude.{◌≤◌, IfOk, vec_len};
 
-use rpo_kinds::names::KindName;
+use rpo_kinds::names::UnknownKind;
 use std::alloc::{AllocError, AllocFailed};
 use std::io::{ErrorKind, Read};
 use std::{fmt, io};
@@ -35,6 +35,12 @@ impl From<io::Error> for Unread {
             ErrorKind::OutOfMemory => Unread::NoMemory,
             _ => Unread::Broken,
         }
+    }
+}
+
+impl From<UnknownKind> for Unread {
+    fn from(_e: UnknownKind) -> Unread {
+        Unread::NoKind
     }
 }
 
@@ -79,16 +85,6 @@ pub fn read_text(rt: &HostRuntime) -> Result<String, Unread> {
     String::from_utf8(bytes).map_err(|_| Unread::NoText)
 }
 
-// The kind of a name or a number.
-pub fn kind_of(text: &str) -> Result<KindName, Unread> {
-    match text {
-        "drill" | "0" => Ok(KindName::Drill),
-        "rpo-128" | "1" => Ok(KindName::Rpo128),
-        "rpo-160" | "2" => Ok(KindName::Rpo160),
-        _ => Err(Unread::NoKind),
-    }
-}
-
 // The numbers of a text, after those that are there. `line` and `first` say where the text stands.
 pub fn parse_numbers(
     words: &mut Vec<u64>,
@@ -97,13 +93,11 @@ pub fn parse_numbers(
     text: &str,
 ) -> Result<(), Unread> {
     for (i, part) in text.split_whitespace().enumerate() {
-        match part.parse::<u64>() {
-            Ok(x) => words.push(x)?,
-            Err(_) => return Err(Unread::NoNumber {
-                line,
-                word: i.saturating_add(first),
-            }),
-        }
+        let word = i.saturating_add(first);
+        let x = part
+            .parse::<u64>()
+            .map_err(|_| Unread::NoNumber { line, word })?;
+        words.push(x)?;
     }
     Ok(())
 }

@@ -1,5 +1,7 @@
+use rpo_kinds::names::UnknownKind;
 use std::alloc::{AllocError, AllocFailed};
 use std::io;
+use std::num::ParseIntError;
 
 // Why a line of a corpus gives no case.
 #[derive(Drop)]
@@ -17,6 +19,18 @@ impl From<AllocError> for NoCase {
 impl<T: Drop> From<AllocFailed<T>> for NoCase {
     fn from(e: AllocFailed<T>) -> NoCase {
         NoCase::Memory(e.into())
+    }
+}
+
+impl From<ParseIntError> for NoCase {
+    fn from(_e: ParseIntError) -> NoCase {
+        NoCase::Form
+    }
+}
+
+impl From<UnknownKind> for NoCase {
+    fn from(_e: UnknownKind) -> NoCase {
+        NoCase::Form
     }
 }
 

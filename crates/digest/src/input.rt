@@ -1,4 +1,4 @@
-use console::input::{Unread, kind_of, parse_numbers};
+use console::input::{Unread, parse_numbers};
 use rpo_kinds::names::KindName;
 use std::alloc::Global;
 
@@ -12,7 +12,7 @@ pub struct Input {
 pub(crate) fn parse(heap: Global, text: &str) -> Result<Input, Unread> {
     let mut lines = text.lines();
     let first = lines.next().ok_or(Unread::NoKind)?;
-    let kind = kind_of(first.trim())?;
+    let kind = first.trim().parse::<KindName>()?;
     let mut words = Vec::new(heap);
     for (i, line) in lines.enumerate() {
         parse_numbers(&mut words, i.saturating_add(2), 1, line)?;

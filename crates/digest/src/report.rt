@@ -21,8 +21,10 @@ fn explain<K: Kind>(rt: &impl Print, length: usize) -> io::Result<()> {
     }
 }
 
-// As `report`, with room for the digest.
-fn report_in<K: Kind>(rt: &impl Print, kind: &K, words: &[u64], out: &mut [u64]) -> io::Result<()> {
+// What is done to a record, and its digest; or why it has none.
+fn print_digest<K: Kind>(rt: &impl Print, kind: &K, words: &[u64]) -> io::Result<()> {
+    let mut room = [0u64; 16];
+    let out = &mut room[..K::DIGEST];
     match digest(kind, words, out) {
         Ok(()) => {
             explain::<K>(rt, words.len())?;
@@ -45,6 +47,5 @@ pub(crate) fn report<K: Kind>(
     let r = K::rate();
     let m = K::state_len();
     println!(rt; "kind: {name}, number {number}, capacity {c}, digest {w}, rate {r}, state {m}")?;
-    let mut out = [0u64; 16];
-    report_in(rt, kind, words, &mut out[0..w])
+    print_digest(rt, kind, words)
 }

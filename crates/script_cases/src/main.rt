@@ -5,22 +5,21 @@
 mod parts;
 
 use crate::parts::read_script;
-use console::input::read_text;
+use console::corpus::run_corpus;
 use console::no_case::print_no_case;
+use console::scripts::print_lines;
 use script::runner::Runner;
 use std::io;
-use std::io::Write;
 
-// All lines of a script.
+// All lines of a script, and then `end`.
 fn run_script(rt: &HostRuntime, script: &[u8]) -> io::Result<()> {
-    let Ok(mut runner) = Runner::new(rt.alloc(), script) else {
-        return println!(rt; "no memory");
-    };
-    let mut line = [0u8; 1024];
-    while let Ok(Some(n)) = runner.next_line(&mut line) {
-        rt.stdout().write_all(&line[0..n])?;
+    match Runner::new(rt.alloc(), script) {
+        Ok(runner) => {
+            print_lines(rt, runner)?;
+            println!(rt; "end")
+        }
+        Err(_) => println!(rt; "no memory"),
     }
-    println!(rt; "end")
 }
 
 fn run_line(rt: &HostRuntime, number: usize, text: &str) -> io::Result<()> {
@@ -30,16 +29,6 @@ fn run_line(rt: &HostRuntime, number: usize, text: &str) -> io::Result<()> {
     }
 }
 
-fn run_lines(rt: &HostRuntime, text: &str) -> io::Result<()> {
-    for (i, line) in text.lines().enumerate() {
-        run_line(rt, i.saturating_add(1), line)?;
-    }
-    Ok(())
-}
-
 fn main(rt: HostRuntime) -> io::Result<()> {
-    match read_text(&rt) {
-        Ok(text) => run_lines(&rt, &text),
-        Err(why) => println!(rt; "cannot read: {why}"),
-    }
+    run_corpus(&rt, |number, text| run_line(&rt, number, text))
 }

@@ -2,7 +2,7 @@ use console::no_case::NoCase;
 use std::alloc::Global;
 
 // No script of the corpus is longer than this, so that no line asks for all of the memory.
-const LONGEST: usize = 100000;
+const LONGEST_SCRIPT: usize = 100000;
 
 fn digit(b: u8) -> Option<u8> {
     match b {
@@ -33,7 +33,7 @@ fn push_hex(script: &mut Vec<u8>, text: &[u8]) -> Result<(), NoCase> {
 // The same, a number of times over.
 fn push_times(script: &mut Vec<u8>, count: usize, text: &[u8]) -> Result<(), NoCase> {
     for _ in 0..count {
-        if script.len() > LONGEST {
+        if script.len() > LONGEST_SCRIPT {
             return Err(NoCase::Form);
         }
         push_hex(script, text)?;
@@ -46,10 +46,7 @@ fn push_part(script: &mut Vec<u8>, text: &str) -> Result<(), NoCase> {
     let Some((count, rest)) = text.split_once('*') else {
         return push_hex(script, text.as_bytes());
     };
-    let Ok(n) = count.parse::<usize>() else {
-        return Err(NoCase::Form);
-    };
-    push_times(script, n, rest.as_bytes())
+    push_times(script, count.parse::<usize>()?, rest.as_bytes())
 }
 
 // The script that a line writes.

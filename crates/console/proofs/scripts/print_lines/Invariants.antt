@@ -1,7 +1,7 @@
 use Rattle.std.proofs.Common.{◌≡◌, length}
 use Rattle.script.specs.Runs.{left}
 use Rattle.script.specs.Shown.{shown}
-use Rattle.script_cases.proofs.run_script.Given as goal
+use Rattle.console.proofs.scripts.print_lines.Given as goal
 
 abbrev pub invariant-loop-n : goal.invariant-loop-n
 invariant-loop-n l = length l.line ≡ 1024
