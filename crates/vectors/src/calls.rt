@@ -57,28 +57,30 @@ fn run_on<F: FnOnce(&mut [u64]) -> Result<(), Denial>>(
 }
 
 // A call on any kind. Not every kind has a reverse.
-fn run_any<K: Kind>(rt: &HostRuntime, kind: &K, case: &Case) -> io::Result<()> {
-    let first = case.first.as_slice();
-    let second = case.second.as_slice();
-    match case.call {
-        Call::Digest { room } => run_on(rt, room, |out| digest(kind, first, out)),
-        Call::Pair { room } => run_on(rt, room, |out| two_to_one(kind, first, second, out)),
-        Call::Permute => run(rt, first, |state| permute(kind, state)),
-        Call::Reverse => println!(rt; "this kind has no reverse"),
+fn run_any<K: Kind>(rt: &HostRuntime, kind: &K, call: &Call) -> io::Result<()> {
+    match call {
+        Call::Digest { words, room } => run_on(rt, *room, |out| digest(kind, words, out)),
+        Call::Pair {
+            first,
+            second,
+            room,
+        } => run_on(rt, *room, |out| two_to_one(kind, first, second, out)),
+        Call::Permute { state } => run(rt, state, |state| permute(kind, state)),
+        Call::Reverse { .. } => println!(rt; "this kind has no reverse"),
     }
 }
 
-fn run_reversible<K: Kind + Reversible>(rt: &HostRuntime, kind: &K, case: &Case) -> io::Result<()> {
-    match case.call {
-        Call::Reverse => run(rt, &case.first, |state| reverse(kind, state)),
-        _ => run_any(rt, kind, case),
+fn run_reversible<K: Kind + Reversible>(rt: &HostRuntime, kind: &K, call: &Call) -> io::Result<()> {
+    match call {
+        Call::Reverse { state } => run(rt, state, |state| reverse(kind, state)),
+        _ => run_any(rt, kind, call),
     }
 }
 
 pub(crate) fn run_case(rt: &HostRuntime, kinds: &Kinds, case: &Case) -> io::Result<()> {
     match case.kind {
-        KindName::Drill => run_any(rt, &Drill, case),
-        KindName::Rpo128 => run_reversible(rt, &kinds.rpo128, case),
-        KindName::Rpo160 => run_reversible(rt, &kinds.rpo160, case),
+        KindName::Drill => run_any(rt, &Drill, &case.call),
+        KindName::Rpo128 => run_reversible(rt, &kinds.rpo128, &case.call),
+        KindName::Rpo160 => run_reversible(rt, &kinds.rpo160, &case.call),
     }
 }

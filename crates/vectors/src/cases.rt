@@ -2,22 +2,30 @@ use console::no_case::NoCase;
 use rpo_kinds::names::KindName;
 use std::alloc::{AllocError, Global};
 
-// A call. `room` is how many words its output buffer has: where it has none, the words given are the buffer.
-#[derive(Clone, Copy)]
+// A call with its words. `room` is how many words its output buffer has: where it has none, the words are the buffer.
+#[derive(Drop)]
 pub enum Call {
-    Digest { room: usize },
-    Pair { room: usize },
-    Permute,
-    Reverse,
+    Digest {
+        words: Vec<u64>,
+        room: usize,
+    },
+    Pair {
+        first: Vec<u64>,
+        second: Vec<u64>,
+        room: usize,
+    },
+    Permute {
+        state: Vec<u64>,
+    },
+    Reverse {
+        state: Vec<u64>,
+    },
 }
 
-// A call with the words that go with it; `second` is empty for all but a pair.
 #[derive(Drop)]
 pub struct Case {
-    pub call: Call,
     pub kind: KindName,
-    pub first: Vec<u64>,
-    pub second: Vec<u64>,
+    pub call: Call,
 }
 
 // `count` words from `start` on, each `step` more than the one before, modulo 2^64.
@@ -29,39 +37,24 @@ struct Run {
 }
 
 // A buffer and a run of words are no longer than this, so that no line asks for all of the memory.
-const LONGEST: usize = 65536;
-
-pub(crate) fn read_kind(text: &str) -> Result<KindName, NoCase> {
-    match text {
-        "0" => Ok(KindName::Drill),
-        "1" => Ok(KindName::Rpo128),
-        "2" => Ok(KindName::Rpo160),
-        _ => Err(NoCase::Form),
-    }
-}
+const MOST_WORDS: usize = 65536;
 
 pub(crate) fn read_length(text: &str) -> Result<usize, NoCase> {
-    match text.parse::<usize>() {
-        Ok(n) if n <= LONGEST => Ok(n),
-        _ => Err(NoCase::Form),
+    let n = text.parse::<usize>()?;
+    if n > MOST_WORDS {
+        return Err(NoCase::Form);
     }
-}
-
-// The room of a buffer, where a head names one.
-pub(crate) fn read_room(text: Option<&str>) -> Result<Option<usize>, NoCase> {
-    match text {
-        Some(part) => Ok(Some(read_length(part)?)),
-        None => Ok(None),
-    }
+    Ok(n)
 }
 
 fn read_run(text: &str) -> Result<Run, NoCase> {
     let (count, rest) = text.split_once('@').ok_or(NoCase::Form)?;
     let (start, step) = rest.split_once('+').ok_or(NoCase::Form)?;
-    let count = read_length(count)?;
-    let start = start.parse::<u64>().ok().ok_or(NoCase::Form)?;
-    let step = step.parse::<u64>().ok().ok_or(NoCase::Form)?;
-    Ok(Run { count, start, step })
+    Ok(Run {
+        count: read_length(count)?,
+        start: start.parse::<u64>()?,
+        step: step.parse::<u64>()?,
+    })
 }
 
 fn push_run(words: &mut Vec<u64>, run: Run) -> Result<(), AllocError> {
@@ -89,47 +82,56 @@ pub(crate) fn read_words(heap: Global, text: &str) -> Result<Vec<u64>, NoCase> {
     Ok(words)
 }
 
-fn read_call(name: &str, room: Option<usize>) -> Result<Call, NoCase> {
-    match (name, room) {
-        ("digest", Some(room)) => Ok(Call::Digest { room }),
-        ("pair", Some(room)) => Ok(Call::Pair { room }),
-        ("permute", None) => Ok(Call::Permute),
-        ("reverse", None) => Ok(Call::Reverse),
-        _ => Err(NoCase::Form),
-    }
+// What stands before the first colon: a call, a kind, and the room of a buffer where the call has one.
+#[derive(Clone, Copy)]
+struct Head<'a> {
+    call: &'a str,
+    kind: KindName,
+    room: Option<usize>,
 }
 
-// What stands before the first colon: a call, the number of a kind, and the room of a buffer.
-fn read_head(text: &str) -> Result<(Call, KindName), NoCase> {
+fn read_head(text: &str) -> Result<Head<'_>, NoCase> {
     let mut parts = text.split_whitespace();
-    let name = parts.next().ok_or(NoCase::Form)?;
-    let kind = read_kind(parts.next().ok_or(NoCase::Form)?)?;
-    let room = read_room(parts.next())?;
+    let call = parts.next().ok_or(NoCase::Form)?;
+    let kind = parts.next().ok_or(NoCase::Form)?.parse::<KindName>()?;
+    let room = parts.next().map(read_length).transpose()?;
     if parts.next().is_some() {
         return Err(NoCase::Form);
     }
-    Ok((read_call(name, room)?, kind))
+    Ok(Head { call, kind, room })
 }
 
-// The words before and after the second colon.
-fn halves(call: Call, text: &str) -> Option<(&str, &str)> {
-    match call {
-        Call::Pair { .. } => text.split_once(':'),
-        _ => Some((text, "")),
+// The call of a head, with the words after the first colon; those of a pair stand on both sides of a second one.
+fn read_call(heap: Global, head: Head<'_>, text: &str) -> Result<Call, NoCase> {
+    match (head.call, head.room) {
+        ("digest", Some(room)) => Ok(Call::Digest {
+            words: read_words(heap, text)?,
+            room,
+        }),
+        ("pair", Some(room)) => {
+            let (left, right) = text.split_once(':').ok_or(NoCase::Form)?;
+            Ok(Call::Pair {
+                first: read_words(heap, left)?,
+                second: read_words(heap, right)?,
+                room,
+            })
+        }
+        ("permute", None) => Ok(Call::Permute {
+            state: read_words(heap, text)?,
+        }),
+        ("reverse", None) => Ok(Call::Reverse {
+            state: read_words(heap, text)?,
+        }),
+        _ => Err(NoCase::Form),
     }
 }
 
 // The case that a line writes.
 pub(crate) fn read_case(heap: Global, text: &str) -> Result<Case, NoCase> {
-    let (head, tail) = text.split_once(':').ok_or(NoCase::Form)?;
-    let (call, kind) = read_head(head)?;
-    let (left, right) = halves(call, tail).ok_or(NoCase::Form)?;
-    let first = read_words(heap, left)?;
-    let second = read_words(heap, right)?;
+    let (front, rest) = text.split_once(':').ok_or(NoCase::Form)?;
+    let head = read_head(front)?;
     Ok(Case {
-        call,
-        kind,
-        first,
-        second,
+        kind: head.kind,
+        call: read_call(heap, head, rest)?,
     })
 }

@@ -10,7 +10,7 @@ mod report;
 use crate::calls::{Kinds, run_case};
 use crate::cases::read_case;
 use crate::opened::run_opened;
-use console::input::read_text;
+use console::corpus::run_corpus;
 use console::no_case::print_no_case;
 use std::io;
 
@@ -28,17 +28,7 @@ fn run_line(rt: &HostRuntime, kinds: &Kinds, number: usize, text: &str) -> io::R
     }
 }
 
-fn run_lines(rt: &HostRuntime, text: &str) -> io::Result<()> {
-    let kinds = Kinds::new();
-    for (i, line) in text.lines().enumerate() {
-        run_line(rt, &kinds, i.saturating_add(1), line)?;
-    }
-    Ok(())
-}
-
 fn main(rt: HostRuntime) -> io::Result<()> {
-    match read_text(&rt) {
-        Ok(text) => run_lines(&rt, &text),
-        Err(why) => println!(rt; "cannot read: {why}"),
-    }
+    let kinds = Kinds::new();
+    run_corpus(&rt, |number, text| run_line(&rt, &kinds, number, text))
 }

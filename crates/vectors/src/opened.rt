@@ -1,7 +1,8 @@
 use crate::calls::{Kinds, PATTERN};
-use crate::cases::{read_kind, read_room, read_words};
-use crate::report::{show_denial, show_words};
+use crate::cases::{read_length, read_words};
+use crate::report::show_denial;
 use console::no_case::{NoCase, print_no_case};
+use console::output::Words;
 use finder::clash::Clash;
 use finder::finding::find_clash;
 use kinds::drill::Drill;
@@ -15,13 +16,20 @@ use std::io;
 // The words between two colons, or nothing, as a claim, which `-` stands for.
 type Section = Option<Vec<u64>>;
 
-// What stands before the first colon: the kind, the depth, the place, and the room of the finder's buffer.
+// Whether an opening is checked, or a clash of two looked for with that much room for its pairs.
+#[derive(Clone, Copy)]
+enum Asked {
+    Check,
+    Find { room: usize },
+}
+
+// What stands before the first colon.
 #[derive(Clone, Copy)]
 struct Head {
+    asked: Asked,
     kind: KindName,
     depth: u8,
     place: u16,
-    room: Option<usize>,
 }
 
 fn read_section(heap: Global, text: &str) -> Result<Section, NoCase> {
@@ -31,17 +39,26 @@ fn read_section(heap: Global, text: &str) -> Result<Section, NoCase> {
     Ok(Some(read_words(heap, text)?))
 }
 
+fn read_asked(name: &str, room: Option<usize>) -> Result<Asked, NoCase> {
+    match (name, room) {
+        ("check", None) => Ok(Asked::Check),
+        ("find", Some(room)) => Ok(Asked::Find { room }),
+        _ => Err(NoCase::Form),
+    }
+}
+
 fn read_head(text: &str) -> Result<Head, NoCase> {
-    let mut parts = text.split_whitespace().skip(1);
-    let kind = read_kind(parts.next().ok_or(NoCase::Form)?)?;
-    let depth = parts.next().ok_or(NoCase::Form)?.parse::<u8>();
-    let place = parts.next().ok_or(NoCase::Form)?.parse::<u16>();
-    let room = read_room(parts.next())?;
+    let mut parts = text.split_whitespace();
+    let name = parts.next().ok_or(NoCase::Form)?;
+    let kind = parts.next().ok_or(NoCase::Form)?.parse::<KindName>()?;
+    let depth = parts.next().ok_or(NoCase::Form)?.parse::<u8>()?;
+    let place = parts.next().ok_or(NoCase::Form)?.parse::<u16>()?;
+    let room = parts.next().map(read_length).transpose()?;
     Ok(Head {
+        asked: read_asked(name, room)?,
         kind,
-        depth: depth.ok().ok_or(NoCase::Form)?,
-        place: place.ok().ok_or(NoCase::Form)?,
-        room,
+        depth,
+        place,
     })
 }
 
@@ -79,8 +96,8 @@ fn run_check<K: Kind>(rt: &HostRuntime, kind: &K, head: Head, s: &[Section]) -> 
 fn show_clash(rt: &HostRuntime, clash: Clash, out: &[u64], kept: bool) -> io::Result<()> {
     match clash {
         Clash::Pairs { level } => {
-            print!(rt; "pairs {level} ")?;
-            show_words(rt, out)
+            let words = Words(out);
+            println!(rt; "pairs {level} {words}")
         }
         Clash::Records if kept => println!(rt; "records"),
         Clash::ZeroRecord { second } if kept => println!(rt; "zero {second}"),
@@ -125,9 +142,9 @@ fn run_find<K: Kind>(
 }
 
 fn run_any<K: Kind>(rt: &HostRuntime, kind: &K, head: Head, s: &[Section]) -> io::Result<()> {
-    match head.room {
-        Some(room) => run_find(rt, kind, head, room, s),
-        None => run_check(rt, kind, head, s),
+    match head.asked {
+        Asked::Find { room } => run_find(rt, kind, head, room, s),
+        Asked::Check => run_check(rt, kind, head, s),
     }
 }
 

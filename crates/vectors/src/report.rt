@@ -1,15 +1,6 @@
+use console::output::Words;
 use kinds::denial::Denial;
 use std::io;
-
-pub(crate) fn show_words(rt: &impl Print, words: &[u64]) -> io::Result<()> {
-    for (i, x) in words.iter().enumerate() {
-        if i > 0 {
-            print!(rt; " ")?;
-        }
-        print!(rt; "{x}")?;
-    }
-    println!(rt)
-}
 
 // A denial, and whether it left its buffer.
 pub(crate) fn show_denial(rt: &impl Print, why: Denial, kept: bool) -> io::Result<()> {
@@ -28,7 +19,10 @@ pub(crate) fn report(
     after: &[u64],
 ) -> io::Result<()> {
     match answer {
-        Ok(()) => show_words(rt, after),
+        Ok(()) => {
+            let words = Words(after);
+            println!(rt; "{words}")
+        }
         Err(why) => show_denial(rt, why, before == after),
     }
 }
