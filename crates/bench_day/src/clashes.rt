@@ -1,4 +1,3 @@
-use crate::command::medium;
 use console::output::{print_refusal, print_words};
 use finder::clash::Clash;
 use finder::finding::find_clash;
@@ -6,20 +5,50 @@ use kinds::drill::Drill;
 use openings::opening::Opening;
 use std::io;
 
-// The clash of two openings at the drill kind: depth, place and root, and twice a record of two words and a path of one.
-pub(crate) fn print_clash(rt: &impl Print, n: &[u64; 9]) -> io::Result<()> {
-    let depth = n[0].min(255) as u8;
-    let place = medium(n[1]);
+// An opening at the drill kind, of a record of two words and with a path of one.
+#[derive(Clone, Copy)]
+pub struct Told {
+    pub record: [u64; 2],
+    pub path: [u64; 1],
+}
+
+// Two of them for a place, of which a clash is looked for.
+#[derive(Clone, Copy)]
+pub struct TwoOpenings {
+    pub depth: u8,
+    pub place: u16,
+    pub root: [u64; 1],
+    pub first: Told,
+    pub second: Told,
+}
+
+impl Told {
+    fn opening(&self) -> Opening<'_> {
+        Opening {
+            claim: Some(&self.record),
+            path: &self.path,
+        }
+    }
+}
+
+pub(crate) fn print_clash(rt: &impl Print, told: &TwoOpenings) -> io::Result<()> {
+    let TwoOpenings {
+        depth,
+        place,
+        root,
+        first,
+        second,
+    } = told;
     let mut out = [0u64; 4];
-    let first = Opening {
-        claim: Some(&n[3..5]),
-        path: &n[5..6],
-    };
-    let second = Opening {
-        claim: Some(&n[6..8]),
-        path: &n[8..9],
-    };
-    match find_clash(&Drill, &n[2..3], depth, place, first, second, &mut out) {
+    match find_clash(
+        &Drill,
+        root,
+        *depth,
+        *place,
+        first.opening(),
+        second.opening(),
+        &mut out,
+    ) {
         Ok(Clash::Pairs { level }) => {
             print!(rt; "level {level}, ")?;
             print_words(rt, "pairs", &out)

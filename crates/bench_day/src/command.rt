@@ -1,3 +1,4 @@
+use crate::clashes::{Told, TwoOpenings};
 use console::input::{Unread, parse_numbers};
 use std::alloc::Global;
 
@@ -16,9 +17,7 @@ pub enum Command {
     Open(u16),
     // Opens a place and checks the path with a record, or with nothing, as the claim.
     Check(u16, Option<Vec<u64>>),
-    // Looks for a clash of two openings at the drill kind: depth, place and root, and twice a record of two words and a
-    // path of one.
-    Clash([u64; 9]),
+    Clash(TwoOpenings),
 }
 
 // A number as a station or a depth; one that is too large stays one that no lot has.
@@ -27,7 +26,7 @@ fn small(x: u64) -> u8 {
 }
 
 // A number as a place or a length.
-pub(crate) fn medium(x: u64) -> u16 {
+fn medium(x: u64) -> u16 {
     u16::try_from(x).unwrap_or(u16::MAX)
 }
 
@@ -45,8 +44,20 @@ fn short_command(name: &str, n: &[u64]) -> Option<Command> {
         ("clear", [p]) => Some(Command::Clear(medium(*p))),
         ("open", [p]) => Some(Command::Open(medium(*p))),
         ("check-empty", [p]) => Some(Command::Check(medium(*p), None)),
-        ("clash", [a, b, c, d, e, f, g, h, i]) => {
-            Some(Command::Clash([*a, *b, *c, *d, *e, *f, *g, *h, *i]))
+        ("clash", [depth, place, root, a, b, under_ab, c, d, under_cd]) => {
+            Some(Command::Clash(TwoOpenings {
+                depth: small(*depth),
+                place: medium(*place),
+                root: [*root],
+                first: Told {
+                    record: [*a, *b],
+                    path: [*under_ab],
+                },
+                second: Told {
+                    record: [*c, *d],
+                    path: [*under_cd],
+                },
+            }))
         }
         _ => None,
     }

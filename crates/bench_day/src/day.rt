@@ -1,7 +1,7 @@
 use crate::clashes::print_clash;
 use crate::command::{Command, parse_command};
-use crate::lot::{Phase, turn};
-use console::input::{Unread, kind_of};
+use crate::lot::{LotInHand, turn};
+use console::input::Unread;
 use kinds::drill::Drill;
 use lots::lot::Lot;
 use rpo_kinds::names::KindName;
@@ -12,17 +12,17 @@ use std::io;
 // A lot of one of the kinds.
 #[derive(Drop)]
 enum AnyLot {
-    Drill(Phase<Drill>),
-    Rpo128(Phase<Rpo128>),
-    Rpo160(Phase<Rpo160>),
+    Drill(LotInHand<Drill>),
+    Rpo128(LotInHand<Rpo128>),
+    Rpo160(LotInHand<Rpo160>),
 }
 
 fn new_lot(rt: &HostRuntime, kind: KindName) -> Result<AnyLot, Unread> {
     let heap = rt.alloc();
     Ok(match kind {
-        KindName::Drill => AnyLot::Drill(Phase::Filling(Lot::new(heap, Drill)?)),
-        KindName::Rpo128 => AnyLot::Rpo128(Phase::Filling(Lot::new(heap, Rpo128::new())?)),
-        KindName::Rpo160 => AnyLot::Rpo160(Phase::Filling(Lot::new(heap, Rpo160::new())?)),
+        KindName::Drill => AnyLot::Drill(LotInHand::Filling(Lot::new(heap, Drill)?)),
+        KindName::Rpo128 => AnyLot::Rpo128(LotInHand::Filling(Lot::new(heap, Rpo128::new())?)),
+        KindName::Rpo160 => AnyLot::Rpo160(LotInHand::Filling(Lot::new(heap, Rpo160::new())?)),
     })
 }
 
@@ -38,13 +38,13 @@ fn turn_any(rt: &impl Print, lot: AnyLot, command: &Command) -> io::Result<AnyLo
 fn line_of_day(rt: &HostRuntime, lot: AnyLot, line: usize, text: &str) -> Result<AnyLot, Unread> {
     print!(rt; "{text}: ")?;
     if let Some(name) = text.strip_prefix("lot ") {
-        let kind = kind_of(name)?;
+        let kind = name.parse::<KindName>()?;
         println!(rt; "ok")?;
         return new_lot(rt, kind);
     }
     match parse_command(rt.alloc(), line, text)? {
-        Command::Clash(numbers) => {
-            print_clash(rt, &numbers)?;
+        Command::Clash(told) => {
+            print_clash(rt, &told)?;
             Ok(lot)
         }
         command => Ok(turn_any(rt, lot, &command)?),

@@ -1,3 +1,5 @@
+ghost use Rattle.std.specs.Prelude.{◌≤◌};
+
 use crate::command::Command;
 use console::output::{print_refusal, print_words};
 use kinds::denial::Denial;
@@ -10,7 +12,7 @@ use std::io;
 
 // A lot of a kind, filling or closed. The compiler refuses to feed the second, and to open the first.
 #[derive(Drop)]
-pub enum Phase<K: Kind> {
+pub enum LotInHand<K: Kind> {
     Filling(Lot<K>),
     Closed(ClosedLot<K>),
 }
@@ -22,15 +24,20 @@ fn print_answer(rt: &impl Print, answer: Result<(), Denial>) -> io::Result<()> {
     }
 }
 
-// The answer, and the words written where it is granted.
-fn print_written(
+// The `n` words that a call writes, after their name; or why it is refused.
+fn print_written<F: FnOnce(&mut [u64]) -> Result<(), Denial>>(
     rt: &impl Print,
     name: &str,
-    answer: Result<(), Denial>,
-    words: &[u64],
-) -> io::Result<()> {
-    match answer {
-        Ok(()) => print_words(rt, name, words),
+    n: usize,
+    call: F,
+) -> io::Result<()>
+    requires room { n ≤ 64 }
+    requires callable { F.IsAlwaysCallable call }
+{
+    let mut room = [0u64; 64];
+    let out = &mut room[..n];
+    match call(out) {
+        Ok(()) => print_words(rt, name, out),
         Err(why) => print_refusal(rt, why),
     }
 }
@@ -49,20 +56,12 @@ fn call<K: Kind>(lot: &mut Lot<K>, command: &Command) -> Option<Result<(), Denia
     }
 }
 
-// A call of a filling lot; `out` is room for a root.
-fn fill<K: Kind>(
-    rt: &impl Print,
-    lot: &mut Lot<K>,
-    command: &Command,
-    out: &mut [u64],
-) -> io::Result<()> {
+// A call of a filling lot.
+fn fill<K: Kind>(rt: &impl Print, lot: &mut Lot<K>, command: &Command) -> io::Result<()> {
     match call(lot, command) {
         Some(answer) => print_answer(rt, answer),
         None => match command {
-            Command::Root => {
-                let answer = lot.root(out);
-                print_written(rt, "root", answer, out)
-            }
+            Command::Root => print_written(rt, "root", K::DIGEST, |out| lot.root(out)),
             _ => println!(rt; "not while the lot is filled"),
         },
     }
@@ -75,9 +74,10 @@ fn verify<K: Kind>(
     lot: &ClosedLot<K>,
     place: u16,
     claim: Option<&[u64]>,
-    root: &mut [u64],
-    path: &mut [u64],
 ) -> io::Result<()> {
+    let (mut root, mut path) = ([0u64; 16], [0u64; 64]);
+    let root = &mut root[..K::DIGEST];
+    let path = &mut path[..lot.depth() * K::DIGEST];
     let _ = lot.root(root);
     if let Err(why) = lot.open(place, path) {
         return print_refusal(rt, why);
@@ -89,28 +89,20 @@ fn verify<K: Kind>(
     }
 }
 
-// A call of a closed lot; `root` and `path` are room for what it writes.
+// A call of a closed lot.
 fn ask<K: Kind>(
     rt: &impl Print,
     kind: &K,
     lot: &ClosedLot<K>,
     command: &Command,
-    root: &mut [u64],
-    path: &mut [u64],
 ) -> io::Result<()> {
     match command {
-        Command::Root => {
-            let answer = lot.root(root);
-            print_written(rt, "root", answer, root)
-        }
+        Command::Root => print_written(rt, "root", K::DIGEST, |out| lot.root(out)),
         Command::Open(place) => {
-            let answer = lot.open(*place, path);
-            print_written(rt, "path", answer, path)
+            let n = lot.depth() * K::DIGEST;
+            print_written(rt, "path", n, |out| lot.open(*place, out))
         }
-        Command::Check(place, record) => {
-            let claim = record.as_deref();
-            verify(rt, kind, lot, *place, claim, root, path)
-        }
+        Command::Check(place, record) => verify(rt, kind, lot, *place, record.as_deref()),
         _ => println!(rt; "not once the lot is closed"),
     }
 }
@@ -119,28 +111,21 @@ fn ask<K: Kind>(
 fn answer<K: Kind>(
     rt: &impl Print,
     kind: &K,
-    lot: &mut Phase<K>,
+    lot: &mut LotInHand<K>,
     command: &Command,
 ) -> io::Result<()> {
-    let w = K::DIGEST;
-    let mut root = [0u64; 16];
-    let root = &mut root[..w];
     match lot {
-        Phase::Filling(l) => fill(rt, l, command, root),
-        Phase::Closed(l) => {
-            let mut path = [0u64; 64];
-            let n = l.depth() * w;
-            ask(rt, kind, l, command, root, &mut path[..n])
-        }
+        LotInHand::Filling(l) => fill(rt, l, command),
+        LotInHand::Closed(l) => ask(rt, kind, l, command),
     }
 }
 
 // Closes a lot. What its buyer relies on from here on is the contract of `promises`, for every kind.
-fn close<K: Kind + Drop>(lot: Phase<K>) -> Phase<K> {
+fn close<K: Kind + Drop>(lot: LotInHand<K>) -> LotInHand<K> {
     promises::<K>();
     match lot {
-        Phase::Filling(l) => Phase::Closed(l.close()),
-        Phase::Closed(l) => Phase::Closed(l),
+        LotInHand::Filling(l) => LotInHand::Closed(l.close()),
+        LotInHand::Closed(l) => LotInHand::Closed(l),
     }
 }
 
@@ -148,9 +133,9 @@ fn close<K: Kind + Drop>(lot: Phase<K>) -> Phase<K> {
 pub(crate) fn turn<K: Kind + Drop>(
     rt: &impl Print,
     kind: &K,
-    mut lot: Phase<K>,
+    mut lot: LotInHand<K>,
     command: &Command,
-) -> io::Result<Phase<K>> {
+) -> io::Result<LotInHand<K>> {
     if let Command::Close = command {
         println!(rt; "ok")?;
         return Ok(close(lot));
