@@ -1,8 +1,7 @@
 -- Lists of elements: their parts, and lists made of them.
-use Rattle.std.proofs.Common.{◌≡◌, ℕ, zero, suc, ◌+◌, ◌-◌, ◌<◌, ◌≤◌, List, [], ◌∷◌, ◌++◌, length, take, drop, set, replicate, refl, ◌∙◌, ⊎_elim, arith}
-use Rattle.std.specs.List.{AllWithin}
+use Rattle.std.proofs.Common.{ℕ, zero, suc, ◌+◌, ◌-◌, ◌<◌, ◌≤◌, List, [], ◌∷◌, ◌++◌, length, take, drop, set, replicate, refl, ◌∙◌, ⊎_elim, arith}
 use Rattle.std.proofs.lemmas.Bool.{cases_lt, cases_eq}
-use Rattle.std.proofs.lemmas.List.{length-append, length-replicate, length-set, length-take, length-drop, get_or_append_left, get_or-append_right, get_or-replicate, get_or-take, get_or-drop, get_or-set_same, get_or-set_other, get_or_default}
+use Rattle.std.proofs.lemmas.List.{length-append, length-replicate, length-set, length-take, length-drop, get_or_append_left, get_or-append_right, get_or-replicate, get_or-take, get_or-drop, get_or-set_same, get_or-set_other}
 use Rattle.field.specs.Field.{p, Elements}
 use Rattle.kinds.specs.Kinds.{State}
 use Rattle.sponge.specs.Digests.{cut}
@@ -52,10 +51,3 @@ cut_state c w s t h =
 
 pub zeros_state : (n : ℕ) → State n (replicate n 0)
 zeros_state n = record { long = length-replicate {A = ℕ} n 0; each = each_zeros n }
-
--- the invariant of sixteen words, and what it says
-pub state_below : (s : List ℕ) → State 16 s → AllWithin (λ x. x < 18446744069414584321) s 0 16
-state_below s t k d l h = let in' : k < length s = omega (arith, t.long) in rw (get_or_default s k d 0 in') (t.each k in')
-
-pub below_state : (s : List ℕ) → length s ≡ 16 → AllWithin (λ x. x < 18446744069414584321) s 0 16 → State 16 s
-below_state s n e = record { long = n; each = λ k h. e k 0 (omega arith) (omega arith) }

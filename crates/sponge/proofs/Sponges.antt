@@ -1,10 +1,9 @@
 -- The program's sponge: sixteen words, of which a kind uses the front, and a count of which it uses the rest by its rate.
 use Rattle.std.proofs.Common.{◌≡◌, ℕ, suc, ◌+◌, ◌-◌, ◌*◌, ◌%◌, ◌<◌, ◌≤◌, List, ◌∷◌, ◌++◌, take, drop, replicate, ap, ◌∙◌, mod-lt, mod-eq_of_lt, arith}
 use native.Mathlib.Nat.{zero-mod}
-use Rattle.std.proofs.lemmas.List.{length-append, length-drop, take_at, take-replicate, drop-take, take-take}
+use Rattle.std.proofs.lemmas.List.{length-append, length-drop, take_at, take-replicate}
 use Rattle.field.specs.Field.{p}
 use Rattle.kinds.specs.Kinds.{State, Sound}
-use Rattle.sponge.specs.Digests.{cut}
 use Rattle.sponge.specs.Streams.{Stream, fed, begun, Fair}
 use Rattle.sponge.proofs.Parts.{each_append, each_drop, front_state}
 use Rattle.sponge.proofs.Feeds.{fed_fair}

@@ -1,5 +1,4 @@
-ghost use Rattle.std.specs.Prelude.{◌<◌};
-ghost use Rattle.std.specs.List.{AllWithin};
+ghost use Rattle.field.specs.Field.{Elements};
 
 pub mod stream;
 
@@ -9,5 +8,5 @@ pub mod stream;
 pub struct Sponge {
     state: [u64; 16],
     filled: usize,
-    ghost below: { AllWithin (λ x. x < 18446744069414584321) state 0 16 },
+    ghost elements: { Elements state },
 }

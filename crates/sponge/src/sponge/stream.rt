@@ -1,4 +1,4 @@
-ghost use Rattle.std.specs.Prelude.{◌≡◌, ℕ, ◌+◌, ◌*◌, ◌%◌, ◌<◌};
+ghost use Rattle.std.specs.Prelude.{◌≡◌, ◌+◌, ◌*◌, ◌%◌, ◌<◌};
 ghost use Rattle.field.specs.Field.{p, Elements};
 ghost use Rattle.sponge.specs.Digests.{filling};
 ghost use Rattle.sponge.specs.Streams.{fed, fed_all, begun, finished, held, Fair};

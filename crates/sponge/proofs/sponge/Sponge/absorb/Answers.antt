@@ -1,5 +1,4 @@
 use Rattle.std.proofs.Common.{◌≡◌, length, rules}
-use Rattle.sponge.proofs.Parts.{state_below, below_state}
 use Rattle.sponge.proofs.Sponges.{front_fair, words_state, absorbed}
 use Rattle.sponge.proofs.sponge.Sponge.absorb.Goals as goal
 
@@ -8,7 +7,7 @@ overwrite-self-requires g c =
     let st = c.args.self.now.state in
     let long : length st ≡ 16 = search rules in
     record {
-      fair = front_fair g.met.K.Kind.sound st st c.state_len-m.result c.rate.result 0 c.args.self.now.filled 0 c.state_len-m.ensures c.rate.ensures (below_state st long c.args.self.now.below);
+      fair = front_fair g.met.K.Kind.sound st st c.state_len-m.result c.rate.result 0 c.args.self.now.filled 0 c.state_len-m.ensures c.rate.ensures (record { long = long; each = c.args.self.now.elements });
       small = c.args.element.below;
     }
 
@@ -16,10 +15,10 @@ pub invariant_of-self : goal.invariant_of-self
 invariant_of-self g c =
     let st = c.args.self.now.state in
     let long : length st ≡ 16 = search rules in
-    record { below = state_below _ (words_state g.met.K.Kind.sound st c.overwrite-self.new.state c.state_len-m.result c.rate.result c.overwrite-self.result c.args.self.now.filled c.args.element.word c.state_len-m.ensures c.rate.ensures (below_state st long c.args.self.now.below) c.args.element.below c.overwrite-self.ensures) }
+    record { elements = (words_state g.met.K.Kind.sound st c.overwrite-self.new.state c.state_len-m.result c.rate.result c.overwrite-self.result c.args.self.now.filled c.args.element.word c.state_len-m.ensures c.rate.ensures (record { long = long; each = c.args.self.now.elements }) c.args.element.below c.overwrite-self.ensures).each }
 
 pub returns : goal.returns
 returns g c =
     let st = c.args.self.now.state in
     let long : length st ≡ 16 = search rules in
-    absorbed g.met.K.Kind.sound st c.overwrite-self.new.state c.state_len-m.result c.rate.result c.overwrite-self.result c.args.self.now.filled c.args.element.word c.state_len-m.ensures c.rate.ensures (below_state st long c.args.self.now.below) c.args.element.below c.overwrite-self.ensures
+    absorbed g.met.K.Kind.sound st c.overwrite-self.new.state c.state_len-m.result c.rate.result c.overwrite-self.result c.args.self.now.filled c.args.element.word c.state_len-m.ensures c.rate.ensures (record { long = long; each = c.args.self.now.elements }) c.args.element.below c.overwrite-self.ensures
