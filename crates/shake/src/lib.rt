@@ -79,6 +79,7 @@ fn squeeze(mut lanes: [u64; 25], out: &mut [u8])
 }
 
 // Fills the buffer with SHAKE256 of the text.
+#[tactic(auto, unfolding(crate::specs::Shake::shake256_bytes))]
 pub fn shake256(text: &[u8], out: &mut [u8])
     ensures { out.new ≡ shake256_bytes text.now (length out.old) }
 {
