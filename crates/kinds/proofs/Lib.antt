@@ -1,2 +1,3 @@
+pub mod Arrays
 pub mod Drills
 pub mod FirstBad

@@ -1,8 +1,6 @@
 -- Bytes and words that are read one by one.
 use Rattle.std.proofs.Common.{◌≡◌, ℕ, zero, suc, ◌+◌, ◌*◌, ◌<◌, List, [], ◌∷◌, length, get_or, refl, sym, ap, subst, ◌∙◌, arith}
 use Rattle.std.proofs.lemmas.List.{same_lists}
-use Rattle.std.specs.Array.{IsFromFnResult, IsFromFnResultFrom}
-use denote.Param.Members.{Mut, Called}
 use Rattle.reader.specs.Numbers.{little, cut, words}
 
 -- within a list, what stands past its end does not matter
@@ -10,19 +8,6 @@ get_or-cast : (xs : List ℕ) (k d : ℕ) → k < length xs → get_or xs k d �
 get_or-cast [] k d h = absurd (omega arith)
 get_or-cast (x ∷ xs) zero d h = refl
 get_or-cast (x ∷ xs) (suc k) d h = get_or-cast xs k d (omega arith)
-
--- items that a closure made, which no call of it changes
-module _ {F : Type 0} (g : Mut F (ℕ × Unit {0}) ℕ) (f : F) (ys : List ℕ) (h : ℕ → ℕ) (gives : (i y : ℕ) (q : F) → Called g f (i, tt) y q → (q ≡ f) × (y ≡ h i)) where
-  each_made : (i n k : ℕ) → IsFromFnResultFrom g f ys i n → k < n → get_or ys (i + k) 0 ≡ h (i + k)
-  each_made i zero k c b = absurd (omega arith)
-  each_made i (suc n) zero (q, y, is, call, more) b =
-      let e : i + 0 ≡ i = omega arith in rw e (is.1 0 ∙ (gives i y q call).1)
-  each_made i (suc n) (suc k) (q, y, is, call, more) b =
-      let e : i + suc k ≡ i + 1 + k = omega arith in
-      rw e (each_made (i + 1) n k (subst (λ s. IsFromFnResultFrom g s ys (i + 1) n) (gives i y q call).0 more) (omega arith))
-
-  pub made : (n : ℕ) → IsFromFnResult g f ys n → (k : ℕ) → k < n → get_or ys k 0 ≡ h k
-  made n r k b = let z : 0 + k ≡ k = omega arith in rw z at (each_made 0 n k r.each b)
 
 pub length-cut : (bytes : List ℕ) (at n : ℕ) → length (cut bytes at n) ≡ n
 length-cut bytes at zero = refl

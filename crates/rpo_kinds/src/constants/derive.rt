@@ -6,6 +6,7 @@ ghost use Rattle.rpo.specs.Matrix.{made_by};
 use crate::constants::RoundConstants;
 use field::element::P;
 use shake::shake256;
+use std::array;
 
 // The number that nine bytes write, least significant first, modulo p. 2^64 is 4294967295 modulo p.
 fn constant(bytes: &[u8]) -> u64
@@ -25,13 +26,11 @@ fn constant(bytes: &[u8]) -> u64
 }
 
 // A constant for each nine bytes.
-fn read<const N: usize>(bytes: &[u8], words: &mut [u64; N])
+fn read<const N: usize>(bytes: &[u8]) -> [u64; N]
     requires { length bytes.now ≡ 9 * N }
-    ensures { words.new ≡ made_by (constant_at bytes.now) N }
+    ensures { result ≡ made_by (constant_at bytes.now) N }
 {
-    for (i, word) in words.iter_mut().enumerate() {
-        *word = constant(&bytes[9 * i..9 * i + 9]);
-    }
+    array::from_fn(|i| constant(&bytes[9 * i..9 * i + 9]))
 }
 
 impl<const N: usize> RoundConstants<N> {
@@ -41,8 +40,7 @@ impl<const N: usize> RoundConstants<N> {
         ensures { result.words ≡ constants_named text.now N }
     {
         shake256(text, stream);
-        let mut words = [0u64; N];
-        read(stream, &mut words);
+        let words = read(stream);
         RoundConstants { words }
     }
 }

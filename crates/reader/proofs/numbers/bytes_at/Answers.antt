@@ -1,5 +1,6 @@
 use Rattle.std.proofs.Common.{rules, ◌+◌, slice_index}
-use Rattle.reader.proofs.Bytes.{cut_is, made}
+use Rattle.kinds.proofs.Arrays.{made}
+use Rattle.reader.proofs.Bytes.{cut_is}
 use Rattle.reader.proofs.numbers.bytes_at.Goals as goal
 
 pub returns : goal.returns

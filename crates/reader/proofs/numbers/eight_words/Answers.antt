@@ -1,6 +1,7 @@
 use Rattle.std.proofs.Common.{rules, ◌+◌, ◌*◌}
 use Rattle.reader.specs.Numbers.{little}
-use Rattle.reader.proofs.Bytes.{words_are, made}
+use Rattle.kinds.proofs.Arrays.{made}
+use Rattle.reader.proofs.Bytes.{words_are}
 use Rattle.reader.proofs.numbers.eight_words.Goals as goal
 
 pub returns : goal.returns
