@@ -55,7 +55,7 @@ impl<K: Kind> Lot<K> {
         ensures { (self.new, told result, []) ≡ step K.CAPACITY K.DIGEST K.mapping self.old (feeding station word) }
     {
         let slot = Slot::try_from(station)?;
-        self.stations.feed(slot, &self.kind, word)
+        self.stations.feed(slot, &self.kind, &[word])
     }
 
     // Eight words, all or none.
@@ -63,7 +63,7 @@ impl<K: Kind> Lot<K> {
         ensures { (self.new, told result, []) ≡ step K.CAPACITY K.DIGEST K.mapping self.old (feeding_eight station words.now) }
     {
         let slot = Slot::try_from(station)?;
-        self.stations.feed_eight(slot, &self.kind, words)
+        self.stations.feed(slot, &self.kind, words)
     }
 
     // Puts the digest of the record in hand at its place.

@@ -10,7 +10,7 @@ ghost use Rattle.openings.specs.Checks.{bad_claim};
 
 use kinds::denial::Denial;
 use kinds::words::admit;
-use sponge::digest::LONGEST;
+use sponge::digest::is_bad_length;
 
 // The words of a claim.
 pub fn words_of<'a>(claim: Option<&'a [u64]>) -> &'a [u64]
@@ -23,7 +23,7 @@ pub fn words_of<'a>(claim: Option<&'a [u64]>) -> &'a [u64]
 pub fn is_bad_claim(claim: Option<&[u64]>) -> bool
     ensures { result ≡ (bad_claim (claimed claim.entry)).0 }
 {
-    claim.is_some_and(|words| words.is_empty() || words.len() > LONGEST)
+    claim.is_some_and(|words| is_bad_length(words.len()))
 }
 
 // Refusal 7; the index is counted through all parts in a row.

@@ -2,7 +2,7 @@ ghost use Rattle.std.specs.Prelude.{◌≡◌};
 ghost use Rattle.field.specs.Field.{Elements};
 ghost use Rattle.kinds.specs.Denials.{told};
 ghost use Rattle.sponge.specs.Digests.{digest_of, start_of};
-ghost use Rattle.sponge.specs.Calls.{digest_call};
+ghost use Rattle.sponge.specs.Calls.{bad_length, digest_call};
 
 use crate::hash::Digest;
 use crate::sponge::Sponge;
@@ -13,6 +13,13 @@ use kinds::words::admit;
 
 // The longest record, in elements.
 pub const LONGEST: usize = 4096;
+
+// Whether no record is so long.
+pub fn is_bad_length(length: usize) -> bool
+    ensures { result ≡ (bad_length length).0 }
+{
+    length == 0 || length > LONGEST
+}
 
 // Where capacity element 0 starts for a record of that length.
 pub fn start_for<K: Kind>(length: usize) -> Element
@@ -39,7 +46,7 @@ pub fn digest_elements<K: Kind>(kind: &K, words: &[u64]) -> Digest<K>
 pub fn digest<K: Kind>(kind: &K, words: &[u64], out: &mut [u64]) -> Result<(), Denial>
     ensures { (told result, out.new) ≡ digest_call K.CAPACITY K.DIGEST K.mapping words.now out.old }
 {
-    if words.len() == 0 || words.len() > LONGEST {
+    if is_bad_length(words.len()) {
         return Err(Denial::BadLength);
     }
     if out.len() != K::DIGEST {

@@ -1,4 +1,4 @@
-ghost use Rattle.std.specs.Prelude.{◌≡◌, [], ◌∷◌, replicate, IfOk, slice_index_or};
+ghost use Rattle.std.specs.Prelude.{◌≡◌, replicate, IfOk, slice_index_or};
 ghost use Rattle.kinds.specs.Denials.{told};
 ghost use Rattle.model.specs.Lots.{idle};
 ghost use Rattle.stations.specs.Machine.{begin_step, feed_step, seal_step, abandon_step, Sealed};
@@ -31,18 +31,8 @@ impl Stations {
         self.table[slot.index()].begin::<K>(place, length)
     }
 
-    pub fn feed<K: Kind>(&mut self, slot: Slot, kind: &K, word: u64) -> Result<(), Denial>
-        ensures { (all_shown K.CAPACITY K.DIGEST self.new, told result) ≡ at_one (all_shown K.CAPACITY K.DIGEST self.old) slot (feed_step K.CAPACITY K.DIGEST K.mapping (word ∷ [])) }
-    {
-        self.table[slot.index()].feed(kind, &[word])
-    }
-
-    pub fn feed_eight<K: Kind>(
-        &mut self,
-        slot: Slot,
-        kind: &K,
-        words: &[u64; 8],
-    ) -> Result<(), Denial>
+    // Takes all of the words or none.
+    pub fn feed<K: Kind>(&mut self, slot: Slot, kind: &K, words: &[u64]) -> Result<(), Denial>
         ensures { (all_shown K.CAPACITY K.DIGEST self.new, told result) ≡ at_one (all_shown K.CAPACITY K.DIGEST self.old) slot (feed_step K.CAPACITY K.DIGEST K.mapping words.now) }
     {
         self.table[slot.index()].feed(kind, words)

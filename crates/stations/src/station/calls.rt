@@ -8,7 +8,7 @@ use crate::station::{Record, Station};
 use kinds::denial::Denial;
 use kinds::kind::Kind;
 use kinds::words::admit;
-use sponge::digest::{LONGEST, start_for};
+use sponge::digest::{is_bad_length, start_for};
 use sponge::hash::Digest;
 use sponge::sponge::Sponge;
 
@@ -37,7 +37,7 @@ impl Station {
     pub(crate) fn begin<K: Kind>(&mut self, place: usize, length: usize) -> Result<(), Denial>
         ensures { (shown K.CAPACITY K.DIGEST self.new, told result) ≡ begin_step K.CAPACITY K.DIGEST K.mapping place length (shown K.CAPACITY K.DIGEST self.old) }
     {
-        if length == 0 || length > LONGEST {
+        if is_bad_length(length) {
             return Err(Denial::BadLength);
         }
         if self.record.is_some() {
@@ -55,10 +55,8 @@ impl Station {
     pub(crate) fn feed<K: Kind>(&mut self, kind: &K, words: &[u64]) -> Result<(), Denial>
         ensures { (shown K.CAPACITY K.DIGEST self.new, told result) ≡ feed_step K.CAPACITY K.DIGEST K.mapping words.now (shown K.CAPACITY K.DIGEST self.old) }
     {
-        match &mut self.record {
-            None => Err(Denial::StationIdle),
-            Some(record) => record.feed(kind, words),
-        }
+        let record = self.record.as_mut().ok_or(Denial::StationIdle)?;
+        record.feed(kind, words)
     }
 
     // The place of the record in hand, and its digest.
@@ -66,9 +64,7 @@ impl Station {
         ensures step { (shown K.CAPACITY K.DIGEST self.new, told result) ≡ seal_step (shown K.CAPACITY K.DIGEST self.old) }
         ensures sealed { IfOk result (λ r. Sealed K.CAPACITY K.DIGEST K.mapping (shown K.CAPACITY K.DIGEST self.old) r.0 r.1) }
     {
-        let Some(mut record) = self.record else {
-            return Err(Denial::StationIdle);
-        };
+        let mut record = self.record.ok_or(Denial::StationIdle)?;
         if record.got < record.length {
             return Err(Denial::RecordShort);
         }
@@ -79,9 +75,7 @@ impl Station {
     pub(crate) fn abandon<K: Kind>(&mut self) -> Result<(), Denial>
         ensures { (shown K.CAPACITY K.DIGEST self.new, told result) ≡ abandon_step (shown K.CAPACITY K.DIGEST self.old) }
     {
-        match self.record.take() {
-            None => Err(Denial::StationIdle),
-            Some(_) => Ok(()),
-        }
+        self.record.take().ok_or(Denial::StationIdle)?;
+        Ok(())
     }
 }
