@@ -11,7 +11,7 @@ use Rattle.script.specs.declared.stage.Stage.TheVariants as stage
 use Rattle.script.specs.Stages.{Stage, before, filling, closed, ended}
 
 -- a lot, or a closed lot, with the name of its kind
-unfoldable pub shown_kind : {L : Type 0} → OfKind L L L → KindName × L
+abbrev pub shown_kind : {L : Type 0} → OfKind L L L → KindName × L
 shown_kind (of.Drill l) = (kind.Drill, l)
 shown_kind (of.Rpo128 l) = (kind.Rpo128, l)
 shown_kind (of.Rpo160 l) = (kind.Rpo160, l)

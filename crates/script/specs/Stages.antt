@@ -42,7 +42,7 @@ abbrev pub any_filled : KindName × Lot → Order → ℕ → (KindName × Lot) 
 any_filled l o at =
     ((l.0, (filled (capacity l.0) (digest l.0) (mixing l.0) l.1 o at).0), (filled (capacity l.0) (digest l.0) (mixing l.0) l.1 o at).1)
 
-unfoldable pub any_closed : KindName × Lot → KindName × model.Closed
+abbrev pub any_closed : KindName × Lot → KindName × model.Closed
 any_closed l = (l.0, model.closed (capacity l.0) (digest l.0) (mixing l.0) l.1)
 
 abbrev pub any_asked : KindName × model.Closed → Order → ℕ → List ℕ
@@ -61,7 +61,7 @@ abbrev pub started_as : Option KindName → ℕ → ℕ → Result (KindName × 
 started_as None depth at = Err (fault.UnknownKind at)
 started_as (Some k) depth at = named_lot k (new_lot (digest k) depth)
 
-unfoldable pub started : ℕ → ℕ → ℕ → Result (KindName × Lot) ScriptFault
+abbrev pub started : ℕ → ℕ → ℕ → Result (KindName × Lot) ScriptFault
 started byte depth at = started_as (name_of byte) depth at
 
 pub data Stage : Type 0 where

@@ -26,7 +26,6 @@ pub type AnyClosed = OfKind<ClosedLot<Drill>, ClosedLot<Rpo128>, ClosedLot<Rpo16
 
 impl AnyLot {
     // Runs a command that is in its phase, and gives its line.
-    #[tactic(auto, unfolding(crate::specs::Shown::shown_kind))]
     pub(crate) fn fill(&mut self, order: Order, at: usize) -> ScriptLine
         ensures after { shown_kind self.new ≡ (any_filled (shown_kind self.old) order at).0 }
         ensures line { result ≡ (any_filled (shown_kind self.old) order at).1 }
@@ -38,7 +37,6 @@ impl AnyLot {
         }
     }
 
-    #[tactic(auto, unfolding(crate::specs::Shown::shown_kind, crate::specs::Stages::any_closed))]
     pub(crate) fn close(self) -> AnyClosed
         ensures { shown_kind result ≡ any_closed (shown_kind self) }
     {
@@ -52,7 +50,6 @@ impl AnyLot {
 
 impl AnyClosed {
     // Runs a command that is in its phase, and gives its line.
-    #[tactic(auto, unfolding(crate::specs::Shown::shown_kind))]
     pub(crate) fn ask(&self, order: Order, at: usize) -> ScriptLine
         ensures { result ≡ any_asked (shown_kind self.now) order at }
     {

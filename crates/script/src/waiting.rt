@@ -42,7 +42,6 @@ impl Waiting {
     }
 
     // The lot that the start at that place asks for.
-    #[tactic(auto, unfolding(crate::specs::Stages::started, crate::specs::Shown::shown_kind))]
     pub(crate) fn start(self, kind: u8, depth: u8, at: usize) -> Result<AnyLot, ScriptFault>
         ensures { shown_started result ≡ started kind depth at }
     {

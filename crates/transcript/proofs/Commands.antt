@@ -12,7 +12,7 @@ use Rattle.model.specs.Lots.{Lot, newly_made, step, run}
 use Rattle.turns.specs.Turns.{filled}
 use Rattle.rpo_kinds.specs.Names.{name_of}
 use Rattle.rpo_kinds.specs.declared.names.KindName.{KindName}
-use Rattle.script.specs.Stages.{capacity, digest, mixing, any_closed, new_lot, named_lot, started_as, started, Stage, before, filling, closed, ended, start_with, start_in, close_in, run_in, act}
+use Rattle.script.specs.Stages.{capacity, digest, mixing, new_lot, named_lot, started_as, Stage, before, filling, closed, ended, start_with, start_in, close_in, run_in, act}
 use Rattle.script.specs.Runs.{Run, fresh, next_command, turn}
 use Rattle.transcript.specs.Lots.{advanced_by, after_lines, LeftByCalls, OfCalls, ScriptsRunLots}
 
@@ -59,12 +59,10 @@ started_left None d at = tt
 started_left (Some kind) d at = made_left kind d at
 
 start_left : (s : Stage) (k d at : ℕ) → OfCalls (start_in s k d at).0
-unfolding started
 start_left before k d at = started_left (name_of k) d at
 start_left s k d at = tt
 
 close_left : (s : Stage) (at : ℕ) → OfCalls s → OfCalls (close_in s at).0
-unfolding any_closed
 close_left (filling l) at h = record { filled = l.1; left = h; is_closed = refl }
 close_left s at h = tt
 
