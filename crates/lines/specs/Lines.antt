@@ -26,16 +26,10 @@ abbrev pub heading_word : Heading → List ℕ
 heading_word heading.Root = codes "root"
 heading_word heading.Path = codes "path"
 
--- the four lines
+-- the lines
 
 abbrev pub ok_line : List ℕ
 ok_line = line (codes "ok") []
-
-abbrev pub root_line : List ℕ → List ℕ
-root_line ns = numbers_line (codes "root") ns
-
-abbrev pub path_line : List ℕ → List ℕ
-path_line ns = numbers_line (codes "path") ns
 
 abbrev pub no_line : ℕ → Layer → ℕ → List ℕ
 no_line number layer offset = line (codes "no") (decimal number ∷ layer_word layer ∷ decimal offset ∷ [])

@@ -1,13 +1,7 @@
 -- Bytes and words that are read one by one.
-use Rattle.std.proofs.Common.{◌≡◌, ℕ, zero, suc, ◌+◌, ◌*◌, ◌<◌, List, [], ◌∷◌, length, get_or, refl, sym, ap, subst, ◌∙◌, arith}
-use Rattle.std.proofs.lemmas.List.{same_lists}
+use Rattle.std.proofs.Common.{◌≡◌, ℕ, zero, suc, ◌+◌, ◌*◌, ◌<◌, List, length, get_or, refl, sym, ap, ◌∙◌, arith}
+use Rattle.std.proofs.lemmas.List.{get_or_default, same_lists}
 use Rattle.reader.specs.Numbers.{little, cut, words}
-
--- within a list, what stands past its end does not matter
-get_or-cast : (xs : List ℕ) (k d : ℕ) → k < length xs → get_or xs k d ≡ get_or xs k 0
-get_or-cast [] k d h = absurd (omega arith)
-get_or-cast (x ∷ xs) zero d h = refl
-get_or-cast (x ∷ xs) (suc k) d h = get_or-cast xs k d (omega arith)
 
 pub length-cut : (bytes : List ℕ) (at n : ℕ) → length (cut bytes at n) ≡ n
 length-cut bytes at zero = refl
@@ -20,7 +14,7 @@ get_or-cut bytes at (suc n) (suc k) d h = get_or-cut bytes (at + 1) n k d (omega
 
 -- a list with those bytes is the part
 pub cut_is : (bytes xs : List ℕ) (at n : ℕ) → length xs ≡ n → ((k : ℕ) → k < n → get_or xs k 0 ≡ get_or bytes (at + k) 0) → xs ≡ cut bytes at n
-cut_is bytes xs at n len each = same_lists xs (cut bytes at n) (len ∙ sym (length-cut bytes at n)) (λ k d h. get_or-cast xs k d h ∙ each k (omega arith) ∙ sym (get_or-cut bytes at n k d (omega arith)))
+cut_is bytes xs at n len each = same_lists xs (cut bytes at n) (len ∙ sym (length-cut bytes at n)) (λ k d h. get_or_default xs k d 0 h ∙ each k (omega arith) ∙ sym (get_or-cut bytes at n k d (omega arith)))
 
 pub length-words : (bytes : List ℕ) (at n : ℕ) → length (words bytes at n) ≡ n
 length-words bytes at zero = refl
@@ -33,4 +27,4 @@ get_or-words bytes at (suc n) (suc k) d h = get_or-words bytes (at + 8) n k d (o
 
 -- a list of those words is what they are
 pub words_are : (bytes xs : List ℕ) (at n : ℕ) → length xs ≡ n → ((k : ℕ) → k < n → get_or xs k 0 ≡ little bytes (at + 8 * k) 8) → xs ≡ words bytes at n
-words_are bytes xs at n len each = same_lists xs (words bytes at n) (len ∙ sym (length-words bytes at n)) (λ k d h. get_or-cast xs k d (omega arith) ∙ each k (omega arith) ∙ sym (get_or-words bytes at n k d (omega arith)))
+words_are bytes xs at n len each = same_lists xs (words bytes at n) (len ∙ sym (length-words bytes at n)) (λ k d h. get_or_default xs k d 0 (omega arith) ∙ each k (omega arith) ∙ sym (get_or-words bytes at n k d (omega arith)))

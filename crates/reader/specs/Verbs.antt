@@ -1,5 +1,5 @@
 -- The command bytes, and how many operand bytes follow each.
-use Rattle.std.specs.Prelude.{ℕ, cond, Some, None, Ok, Err, Option, Result, ◌==◌}
+use Rattle.std.specs.Prelude.{ℕ, cond, Some, None, Option, Result, ok_or, ◌==◌}
 use Rattle.reader.specs.declared.verbs.Verb.{Verb}
 use Rattle.reader.specs.declared.verbs.Verb.TheVariants as verb
 use Rattle.reader.specs.declared.verbs.UnknownByte.{UnknownByte}
@@ -18,12 +18,8 @@ verb_of byte =
     (cond (byte == 0x18) (Some verb.FeedEight) None)))))))))
 
 -- the command of a byte, as a result
-abbrev pub named : Option Verb → Result Verb UnknownByte
-named None = Err (record {})
-named (Some v) = Ok v
-
 abbrev pub verb_in : ℕ → Result Verb UnknownByte
-verb_in byte = named (verb_of byte)
+verb_in byte = ok_or (verb_of byte) (record {})
 
 abbrev pub width_of : Verb → ℕ
 width_of verb.Start = 2

@@ -1,5 +1,5 @@
 -- The kinds by their numbers and by texts.
-use Rattle.std.specs.Prelude.{◌≡◌, ◌⊎◌, ℕ, List, codes, cond, Some, None, Ok, Err, Option, Result, MatchResult, ◌==◌}
+use Rattle.std.specs.Prelude.{◌≡◌, ◌⊎◌, ℕ, List, codes, cond, Some, None, Option, Result, ok_or, MatchResult, ◌==◌}
 use Rattle.rpo_kinds.specs.declared.names.KindName.{KindName}
 use Rattle.rpo_kinds.specs.declared.names.KindName.TheVariants as kind
 use Rattle.rpo_kinds.specs.declared.names.UnknownKind.{UnknownKind}
@@ -8,12 +8,8 @@ abbrev pub name_of : ℕ → Option KindName
 name_of byte = cond (byte == 0) (Some kind.Drill) (cond (byte == 1) (Some kind.Rpo128) (cond (byte == 2) (Some kind.Rpo160) None))
 
 -- the same, as a result
-abbrev pub named : Option KindName → Result KindName UnknownKind
-named None = Err (record {})
-named (Some name) = Ok name
-
 abbrev pub kind_named : ℕ → Result KindName UnknownKind
-kind_named number = named (name_of number)
+kind_named number = ok_or (name_of number) (record {})
 
 -- how a kind is named in input and output
 abbrev pub kind_word : KindName → List ℕ

@@ -2,7 +2,7 @@ use Rattle.std.proofs.Common.{◌≡◌, Ok, Err, None, Some, inl, inr, rules, a
 use Rattle.reader.specs.Commands.{read_command}
 use Rattle.reader.specs.declared.fault.ScriptFault.TheVariants as fault
 use Rattle.reader.specs.Verbs.{verb_in}
-use Rattle.reader.proofs.Cuts.{named_none, read_whole, read_short}
+use Rattle.reader.proofs.Cuts.{was_none, read_whole, read_short}
 use Rattle.reader.proofs.reading.read_command.Goals as goal
 
 pub returns-in_err-verb : goal.returns-in_err-verb
@@ -10,7 +10,7 @@ unfolding read_command
 returns-in_err-verb c =
     let e : c.from_residual.result ≡ Err (fault.UnknownCommand c.args.at) = search rules in
     let none : Err (record {}) ≡ verb_in c.args.first = search rules in
-    rw (e, named_none _ _ (rw c.requires.there at none))
+    rw (e, was_none _ _ _ (rw c.requires.there at none))
 
 pub returns-in_err-operands : goal.returns-in_err-operands
 returns-in_err-operands c =
