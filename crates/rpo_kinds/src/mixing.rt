@@ -86,10 +86,8 @@ impl<S: ParameterSet<M, N>, const M: usize, const N: usize> Kind for Rpo<S, M, N
     ghost sound = { S.sound };
 
     fn mix(&self, state: &mut [u64]) {
-        let mut s = [0u64; M];
-        s.copy_from_slice(state);
-        self.rounds().permute(&mut s);
-        state.copy_from_slice(&s);
+        let s = state.as_mut_array().unwrap();
+        self.rounds().permute(s);
     }
 }
 
@@ -101,9 +99,7 @@ impl<S: ParameterSet<M, N>, const M: usize, const N: usize> Reversible for Rpo<S
     ghost back = { S.back };
 
     fn unmix(&self, state: &mut [u64]) {
-        let mut s = [0u64; M];
-        s.copy_from_slice(state);
-        self.rounds_back().reverse(&mut s);
-        state.copy_from_slice(&s);
+        let s = state.as_mut_array().unwrap();
+        self.rounds_back().reverse(s);
     }
 }

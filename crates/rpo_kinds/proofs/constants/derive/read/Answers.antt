@@ -1,8 +1,7 @@
-use Rattle.std.proofs.Common.{◌≡◌, ℕ, ◌+◌, ◌-◌, ◌*◌, ◌%◌, take, drop, ap, ◌∙◌, arith, rules}
-use Rattle.field.specs.Field.{p}
+use Rattle.std.proofs.Common.{◌≡◌, ℕ, ◌+◌, ◌-◌, ◌*◌, arith, rules}
 use Rattle.kinds.proofs.Arrays.{made}
 use Rattle.shake.proofs.Fill.{filled_all}
-use Rattle.rpo_kinds.specs.Constants.{little_endian, constant_at}
+use Rattle.rpo_kinds.specs.Constants.{constant_at}
 use Rattle.rpo_kinds.proofs.constants.derive.read.Goals as goal
 
 pub returns : goal.returns
