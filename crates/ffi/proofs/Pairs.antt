@@ -1,50 +1,30 @@
 -- A chain of pairs, turn by turn.
-use Rattle.std.proofs.Common.{◌≡◌, ℕ, zero, suc, ◌+◌, ◌<◌, true, false, List, [], ◌∷◌, ◌++◌, length, eqb, refl, sym, ap, ◌∙◌, ⊎_elim, arith}
-use Rattle.std.proofs.lemmas.Bool.{cases_Bool, ltb-false, le-ltb, eq-eqb, ne_eqb, eqb-true, not-false}
-use Rattle.std.proofs.Math.Seq.{take-append_seam, drop-append_seam}
-use Rattle.field.specs.Field.{Elements}
-use Rattle.kinds.specs.Answers.{Answer, granted, denied, Cause, answer}
+use Rattle.std.proofs.Common.{◌≡◌, ℕ, zero, suc, ◌+◌, ◌<◌, true, List, [], ◌∷◌, ◌++◌, length, eqb, refl, sym, ap, ◌∙◌, arith}
+use Rattle.std.proofs.lemmas.Bool.{eq-eqb, ne_eqb}
+use Rattle.kinds.specs.Answers.{Answer, granted, denied}
 use Rattle.kinds.specs.Kinds.{State, Sound}
-use Rattle.kinds.specs.Words.{first_bad, not_elements}
+use Rattle.kinds.specs.Words.{not_elements}
 use Rattle.kinds.specs.Permuting.{bad_buffer}
-use Rattle.kinds.proofs.FirstBad.{first_is, all_from}
+use Rattle.kinds.proofs.Causes.{none_there, granted_by, all_elements, good_elements, right_buffer, good_buffer}
 use Rattle.sponge.specs.Digests.{two_to_one}
 use Rattle.sponge.specs.Calls.{pair_answer, pair_call}
-use Rattle.sponge.proofs.Parts.{each_append, each_take, each_drop}
+use Rattle.sponge.proofs.Parts.{each_append, each_left, each_right}
 use Rattle.sponge.proofs.Pairs.{pair_state}
 use Rattle.ffi.specs.Chains.{chained, chain_call}
-
--- a granted call, and that its first cause is not there
-past : (x : Cause) (xs : List Cause) → answer (x ∷ xs) ≡ granted → (x.0 ≡ false) × (answer xs ≡ granted)
-past x xs e =
-    ⊎_elim
-    (λ b. let never : denied x.1 x.2 ≡ granted = rw b at e in cc)
-    (λ b. (b, rw b at e))
-    (cases_Bool x.0)
-
-long_enough : (n : ℕ) (s : List ℕ) → (bad_buffer n s).0 ≡ false → length s ≡ n
-long_enough n s e = eqb-true (length s) n (not-false (eqb (length s) n) e)
-
-all_pass : (xs : List ℕ) → Elements xs → (not_elements xs).0 ≡ false
-all_pass xs each =
-    let e = first_is xs (length xs) (omega arith) each (λ never. absurd (omega arith)) in
-    le-ltb (first_bad xs) (length xs) (omega arith)
 
 module _ (w : ℕ) (a b out : List ℕ) where
   -- a pair that is granted is one of digests
   pair_fits : pair_answer w a b out ≡ granted → (State w a) × (State w b)
   pair_fits e =
-      let s1 = past (bad_buffer w a) (bad_buffer w b ∷ bad_buffer w out ∷ not_elements (a ++ b) ∷ []) e in
-      let s2 = past (bad_buffer w b) (bad_buffer w out ∷ not_elements (a ++ b) ∷ []) s1.1 in
-      let s3 = past (bad_buffer w out) (not_elements (a ++ b) ∷ []) s2.1 in
-      let s4 = past (not_elements (a ++ b)) [] s3.1 in
-      let each = all_from (a ++ b) (ltb-false (first_bad (a ++ b)) (length (a ++ b)) s4.0) in
-      (record { long = long_enough w a s1.0; each = rw take-append_seam at (each_take (length a) (a ++ b) each) }, record { long = long_enough w b s2.0; each = rw drop-append_seam at (each_drop (length a) (a ++ b) each) })
+      let none = none_there (bad_buffer w a ∷ bad_buffer w b ∷ bad_buffer w out ∷ not_elements (a ++ b) ∷ []) e in
+      let each = all_elements (a ++ b) none.1.1.1.0 in
+      (record { long = right_buffer w a none.0; each = each_left a b each }, record { long = right_buffer w b none.1.0; each = each_right a b each })
 
   -- and digests with room for one are granted
   pair_granted : State w a → State w b → length out ≡ w → pair_answer w a b out ≡ granted
   pair_granted sa sb so =
-      rw (eq-eqb (length a) w sa.long, eq-eqb (length b) w sb.long, eq-eqb (length out) w so, all_pass (a ++ b) (each_append a b sa.each sb.each))
+      granted_by (bad_buffer w a ∷ bad_buffer w b ∷ bad_buffer w out ∷ not_elements (a ++ b) ∷ [])
+          (good_buffer w a sa.long, (good_buffer w b sb.long, (good_buffer w out so, (good_elements (a ++ b) (each_append a b sa.each sb.each), tt))))
 
 -- before the turn i of a chain over start, b and room: what a and out hold
 module _ (c w : ℕ) (F : List ℕ → List ℕ) (b start room : List ℕ) where

@@ -2,13 +2,13 @@
 use Rattle.std.proofs.Common.{◌≡◌, ℕ, ◌*◌, List, [], ◌∷◌, ◌++◌, Option, sym, ap, ◌∙◌}
 use Rattle.kinds.specs.Answers.{Answer, granted, denied, Cause, answer}
 use Rattle.kinds.specs.Words.{not_elements}
-use Rattle.model.proofs.Causes.{NoneThere, all_elements, right_buffer}
+use Rattle.kinds.proofs.Causes.{NoneThere, all_elements, right_buffer}
+use Rattle.sponge.proofs.Parts.{each_left, each_right}
 use Rattle.model.specs.Calls.{too_deep, no_place}
 use Rattle.kinds.specs.Kinds.{State}
 use Rattle.kinds.specs.Permuting.{bad_buffer}
 use Rattle.openings.specs.Opening.{words_of}
 use Rattle.openings.specs.Checks.{bad_claim}
-use Rattle.openings.proofs.Tests.{each_left, each_right}
 use Rattle.openings.proofs.Admitted.{Fine}
 use Rattle.openings.proofs.Causes.{answer_front, answer_past}
 use Rattle.finder.specs.Findings.{Shown, nothing, handed_causes, unless_denied, found, verdict, find_call}

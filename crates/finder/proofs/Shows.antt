@@ -6,7 +6,7 @@ use Rattle.kinds.specs.Answers.{Answer, granted, denied, if_granted}
 use Rattle.kinds.specs.Permuting.{bad_buffer}
 use Rattle.sponge.proofs.Parts.{each_append}
 use Rattle.model.specs.Trees.{leaf}
-use Rattle.model.proofs.Causes.{NoneThere, none_there, granted_by, good_elements, good_buffer}
+use Rattle.kinds.proofs.Causes.{NoneThere, none_there, granted_by, good_elements, good_buffer}
 use Rattle.openings.specs.Opening.{same, words_of, is_right, part_at, Pair, flat, own_at, pair_at, reaches}
 use Rattle.openings.specs.Checks.{check_causes, check_answer}
 use Rattle.openings.proofs.Digests.{same_decides, leaf_state, pair_digests, from_flat, paired_parts}

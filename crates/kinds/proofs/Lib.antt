@@ -1,3 +1,4 @@
 pub mod Arrays
 pub mod Drills
 pub mod FirstBad
+pub mod Causes

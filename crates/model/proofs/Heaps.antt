@@ -13,7 +13,7 @@ use Rattle.model.specs.Trees.{sibling, node, tree_value, path_of}
 use Rattle.model.specs.Lots.{leaf_at}
 use Rattle.model.specs.Closed.{siblings_from, open_answer, heap_node, all_nodes}
 use Rattle.model.specs.Laws.{ClosedLaws}
-use Rattle.model.proofs.Causes.{none_there}
+use Rattle.kinds.proofs.Causes.{none_there}
 
 -- the nodes from 1 on
 pub node_is : {X : Type 0} (f : ℕ → X) (x : X) (d i : ℕ) → 1 ≤ i → i < 2 * 2 ^ d → get_or (x ∷ map f (range_with_len 1 (2 * 2 ^ d - 1))) i x ≡ f i

@@ -10,7 +10,8 @@ use Rattle.model.specs.Histories.{Hand, holding, with_more, is_nothing, short_of
 use Rattle.model.specs.Trees.{tree_value}
 use Rattle.model.specs.Lots.{Lot, Station, station_at, is_idle, lacks, answer_to, fed_with, begun_for, effect, step}
 use Rattle.model.specs.Bench.{Bench, bench_answer, bench_buffer}
-use Rattle.model.proofs.Causes.{NoneThere, none_there, one_of_eight, all_elements, good_length, same_either_way}
+use Rattle.kinds.proofs.Causes.{NoneThere, none_there, all_elements}
+use Rattle.model.proofs.Causes.{one_of_eight, good_length, same_either_way}
 use Rattle.model.proofs.Hands.{fair_more, idle_same, lacks_same, more_kept}
 use Rattle.model.proofs.Stands.{Stands, new_stands, hand_put, hand_emptied, leaf_put, hand_sealed}
 

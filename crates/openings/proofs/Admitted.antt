@@ -8,13 +8,12 @@ use Rattle.std.specs.List.{flat_map, list_any, AllByRecursion}
 use Rattle.std.proofs.lemmas.Bool.{cases_Bool}
 use Rattle.std.proofs.lemmas.List.{length-take-le}
 use Rattle.kinds.specs.Permuting.{bad_buffer}
-use Rattle.sponge.proofs.Parts.{each_append}
+use Rattle.sponge.proofs.Parts.{each_append, each_left, each_right}
 use Rattle.model.specs.Calls.{too_deep, no_place}
-use Rattle.model.proofs.Causes.{none_there, granted_by, all_elements, good_elements, right_buffer, good_buffer}
+use Rattle.kinds.proofs.Causes.{none_there, granted_by, all_elements, good_elements, right_buffer, good_buffer}
 use Rattle.openings.specs.Opening.{words_of, Climbable}
 use Rattle.openings.specs.declared.opening.Opening.{Opening}
 use Rattle.openings.specs.Checks.{bad_claim, check_causes, check_answer}
-use Rattle.openings.proofs.Tests.{each_left, each_right}
 
 pub record Fine (w : ℕ) (root : List ℕ) (depth : ℕ) (claim : Option (List ℕ)) (path : List ℕ) : Type 0 where
   pub root_fits : State w root

@@ -5,7 +5,7 @@ use Rattle.std.proofs.lemmas.Bool.{cases_Bool}
 use Rattle.std.proofs.lemmas.List.{append-nil}
 use Rattle.kinds.specs.Answers.{granted, denied, Cause, answer}
 use Rattle.kinds.specs.Permuting.{bad_buffer}
-use Rattle.model.proofs.Causes.{none_there}
+use Rattle.kinds.proofs.Causes.{none_there}
 use Rattle.openings.specs.declared.opening.Opening.{Opening}
 use Rattle.openings.specs.Checks.{bad_claim}
 use Rattle.openings.specs.Sites.{claim_of, shape_causes}

@@ -13,7 +13,7 @@ use Rattle.model.specs.Histories.{last_record}
 use Rattle.model.specs.Trees.{leaf, sibling, node, tree_value, path_of}
 use Rattle.model.specs.Lots.{leaf_at, lot_after, history_of}
 use Rattle.model.specs.Closed.{closed_root_answer, open_answer}
-use Rattle.model.proofs.Causes.{granted_by, good_buffer}
+use Rattle.kinds.proofs.Causes.{granted_by, good_buffer}
 use Rattle.model.proofs.Hands.{FairRecord, leaf_state}
 use Rattle.model.proofs.Heaps.{sibling_even, sibling_odd, half_again, closed_laws}
 use Rattle.model.proofs.Paths.{node_state, path_state, path_part}

@@ -1,7 +1,7 @@
 -- Lists of elements: their parts, and lists made of them.
 use Rattle.std.proofs.Common.{ℕ, zero, suc, ◌+◌, ◌-◌, ◌<◌, ◌≤◌, List, [], ◌∷◌, ◌++◌, length, take, drop, set, replicate, refl, ◌∙◌, ⊎_elim, arith}
 use Rattle.std.proofs.lemmas.Bool.{cases_lt, cases_eq}
-use Rattle.std.proofs.lemmas.List.{length-append, length-replicate, length-set, length-take, length-drop, get_or_append_left, get_or-append_right, get_or-replicate, get_or-take, get_or-drop, get_or-set_same, get_or-set_other}
+use Rattle.std.proofs.lemmas.List.{length-append, length-replicate, length-set, length-take, length-drop, get_or_append_left, get_or-append_right, get_or-append-add, get_or-replicate, get_or-take, get_or-drop, get_or-set_same, get_or-set_other}
 use Rattle.field.specs.Field.{p, Elements}
 use Rattle.kinds.specs.Kinds.{State}
 use Rattle.sponge.specs.Digests.{cut}
@@ -18,6 +18,12 @@ each_append xs ys ex ey k h =
     ⊎_elim (λ l. rw (get_or_append_left xs ys 0 k l) (ex k l))
     (λ l. rw (get_or-append_right xs ys (length xs) k 0 refl l) (ey (k - length xs) (let n = length-append xs ys in omega arith)))
     (cases_lt k (length xs))
+
+pub each_left : (xs ys : List ℕ) → Elements (xs ++ ys) → Elements xs
+each_left xs ys e k h = let n = length-append xs ys in rw (get_or_append_left xs ys 0 k h) at (e k (omega arith))
+
+pub each_right : (xs ys : List ℕ) → Elements (xs ++ ys) → Elements ys
+each_right xs ys e k h = let n = length-append xs ys in rw (get_or-append-add xs ys k 0) at (e (length xs + k) (omega arith))
 
 pub each_zeros : (n : ℕ) → Elements (replicate n 0)
 each_zeros n k h = let l : k < n = omega (arith, length-replicate {A = ℕ} n 0) in rw (get_or-replicate {A = ℕ} n k 0 0 l) (omega arith)
