@@ -1,7 +1,7 @@
 ghost use Rattle.std.specs.Prelude.{◌≤◌};
 
 use crate::command::Command;
-use console::output::{print_refusal, print_words};
+use console::output::{Checked, print_refusal, print_words};
 use kinds::denial::Denial;
 use kinds::kind::Kind;
 use lots::closed::ClosedLot;
@@ -69,24 +69,17 @@ fn fill<K: Kind>(rt: &impl Print, lot: &mut Lot<K>, command: &Command) -> io::Re
 
 // Opens a place of a closed lot, and checks the opening under the lot's root.
 fn verify<K: Kind>(
-    rt: &impl Print,
     kind: &K,
     lot: &ClosedLot<K>,
     place: u16,
     claim: Option<&[u64]>,
-) -> io::Result<()> {
+) -> Result<bool, Denial> {
     let (mut root, mut path) = ([0u64; 16], [0u64; 64]);
     let root = &mut root[..K::DIGEST];
     let path = &mut path[..lot.depth() * K::DIGEST];
-    let _ = lot.root(root);
-    if let Err(why) = lot.open(place, path) {
-        return print_refusal(rt, why);
-    }
-    match check(kind, root, lot.depth() as u8, place, claim, path) {
-        Ok(true) => println!(rt; "accepted"),
-        Ok(false) => println!(rt; "not accepted"),
-        Err(why) => print_refusal(rt, why),
-    }
+    lot.root(root)?;
+    lot.open(place, path)?;
+    check(kind, root, lot.depth() as u8, place, claim, path)
 }
 
 // A call of a closed lot.
@@ -102,7 +95,10 @@ fn ask<K: Kind>(
             let n = lot.depth() * K::DIGEST;
             print_written(rt, "path", n, |out| lot.open(*place, out))
         }
-        Command::Check(place, record) => verify(rt, kind, lot, *place, record.as_deref()),
+        Command::Check(place, record) => {
+            let checked = Checked(verify(kind, lot, *place, record.as_deref()));
+            println!(rt; "{checked}")
+        }
         _ => println!(rt; "not once the lot is closed"),
     }
 }

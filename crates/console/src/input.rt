@@ -1,4 +1,5 @@
 ghost use Rattle.std.specs.Prelude.{◌≤◌, IfOk, vec_len};
+ghost use Rattle.std.specs.String.{string_vec};
 
 use rpo_kinds::names::UnknownKind;
 use std::alloc::{AllocError, AllocFailed};
@@ -80,7 +81,9 @@ pub fn slurp(rt: &HostRuntime) -> Result<Vec<u8>, Unread>
 }
 
 // All of standard input as a text.
-pub fn read_text(rt: &HostRuntime) -> Result<String, Unread> {
+pub fn read_text(rt: &HostRuntime) -> Result<String, Unread>
+    ensures { IfOk result (λ text. vec_len (string_vec text) ≤ 1048576) }
+{
     let bytes = slurp(rt)?;
     String::from_utf8(bytes).map_err(|_| Unread::NoText)
 }

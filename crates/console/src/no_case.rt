@@ -3,22 +3,28 @@ use std::alloc::{AllocError, AllocFailed};
 use std::io;
 use std::num::ParseIntError;
 
-// Why a line of a corpus gives no case.
+// Why a line of a corpus gives no case, or its case no line of output.
 #[derive(Drop)]
 pub enum NoCase {
     Form,
-    Memory(AllocError),
+    Broken(io::Error),
 }
 
 impl From<AllocError> for NoCase {
     fn from(e: AllocError) -> NoCase {
-        NoCase::Memory(e)
+        NoCase::Broken(e.into())
     }
 }
 
 impl<T: Drop> From<AllocFailed<T>> for NoCase {
     fn from(e: AllocFailed<T>) -> NoCase {
-        NoCase::Memory(e.into())
+        NoCase::Broken(e.into())
+    }
+}
+
+impl From<io::Error> for NoCase {
+    fn from(e: io::Error) -> NoCase {
+        NoCase::Broken(e)
     }
 }
 
@@ -31,13 +37,5 @@ impl From<ParseIntError> for NoCase {
 impl From<UnknownKind> for NoCase {
     fn from(_e: UnknownKind) -> NoCase {
         NoCase::Form
-    }
-}
-
-// A line that gives no case, by its number.
-pub fn print_no_case(rt: &impl Print, number: usize, why: NoCase) -> io::Result<()> {
-    match why {
-        NoCase::Form => println!(rt; "cannot read line {number}"),
-        NoCase::Memory(e) => Err(e.into()),
     }
 }

@@ -1,4 +1,5 @@
 ghost use Rattle.std.specs.Prelude.{Some};
+ghost use Rattle.console.specs.Checks.{check_text};
 ghost use Rattle.console.specs.Words.{words_text};
 
 use kinds::denial::Denial;
@@ -19,6 +20,22 @@ impl fmt::Display for Words<'_> {
             }
         }
         Ok(())
+    }
+}
+
+// What the check of an opening answers.
+#[derive(Clone, Copy)]
+pub struct Checked(pub Result<bool, Denial>);
+
+impl fmt::Display for Checked {
+    ghost output = { λ checked. Some (check_text checked.0) };
+
+    fn fmt<W: fmt::Write>(&self, f: &mut fmt::Formatter<W>) -> fmt::Result {
+        match self.0 {
+            Ok(true) => write!(f, "accepted"),
+            Ok(false) => write!(f, "not accepted"),
+            Err(why) => write!(f, "no {why}"),
+        }
     }
 }
 

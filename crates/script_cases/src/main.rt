@@ -6,7 +6,7 @@ mod parts;
 
 use crate::parts::read_script;
 use console::corpus::run_corpus;
-use console::no_case::print_no_case;
+use console::no_case::NoCase;
 use console::scripts::print_lines;
 use script::runner::Runner;
 use std::io;
@@ -22,13 +22,10 @@ fn run_script(rt: &HostRuntime, script: &[u8]) -> io::Result<()> {
     }
 }
 
-fn run_line(rt: &HostRuntime, number: usize, text: &str) -> io::Result<()> {
-    match read_script(rt.alloc(), text) {
-        Ok(script) => run_script(rt, &script),
-        Err(why) => print_no_case(rt, number, why),
-    }
+fn run_line(rt: &HostRuntime, text: &str) -> Result<(), NoCase> {
+    Ok(run_script(rt, &read_script(rt.alloc(), text)?)?)
 }
 
 fn main(rt: HostRuntime) -> io::Result<()> {
-    run_corpus(&rt, |number, text| run_line(&rt, number, text))
+    run_corpus(&rt, |text| run_line(&rt, text))
 }

@@ -39,6 +39,14 @@ struct Run {
 // A buffer and a run of words are no longer than this, so that no line asks for all of the memory.
 const MOST_WORDS: usize = 65536;
 
+// The kind of a number that stands as one digit.
+pub(crate) fn read_kind(text: &str) -> Result<KindName, NoCase> {
+    let [digit] = text.as_bytes() else {
+        return Err(NoCase::Form);
+    };
+    Ok(KindName::try_from(digit.wrapping_sub(b'0'))?)
+}
+
 pub(crate) fn read_length(text: &str) -> Result<usize, NoCase> {
     let n = text.parse::<usize>()?;
     if n > MOST_WORDS {
@@ -93,7 +101,7 @@ struct Head<'a> {
 fn read_head(text: &str) -> Result<Head<'_>, NoCase> {
     let mut parts = text.split_whitespace();
     let call = parts.next().ok_or(NoCase::Form)?;
-    let kind = parts.next().ok_or(NoCase::Form)?.parse::<KindName>()?;
+    let kind = read_kind(parts.next().ok_or(NoCase::Form)?)?;
     let room = parts.next().map(read_length).transpose()?;
     if parts.next().is_some() {
         return Err(NoCase::Form);

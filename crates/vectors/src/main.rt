@@ -11,24 +11,21 @@ use crate::calls::{Kinds, run_case};
 use crate::cases::read_case;
 use crate::opened::run_opened;
 use console::corpus::run_corpus;
-use console::no_case::print_no_case;
+use console::no_case::NoCase;
 use std::io;
 
 // One line. What begins with '#' is a heading, which is written as it is.
-fn run_line(rt: &HostRuntime, kinds: &Kinds, number: usize, text: &str) -> io::Result<()> {
+fn run_line(rt: &HostRuntime, kinds: &Kinds, text: &str) -> Result<(), NoCase> {
     if text.starts_with('#') {
-        return println!(rt; "{text}");
+        return Ok(println!(rt; "{text}")?);
     }
     if text.starts_with("check ") || text.starts_with("find ") {
-        return run_opened(rt, kinds, number, text);
+        return run_opened(rt, kinds, text);
     }
-    match read_case(rt.alloc(), text) {
-        Ok(case) => run_case(rt, kinds, &case),
-        Err(why) => print_no_case(rt, number, why),
-    }
+    Ok(run_case(rt, kinds, &read_case(rt.alloc(), text)?)?)
 }
 
 fn main(rt: HostRuntime) -> io::Result<()> {
     let kinds = Kinds::new();
-    run_corpus(&rt, |number, text| run_line(&rt, &kinds, number, text))
+    run_corpus(&rt, |text| run_line(&rt, &kinds, text))
 }

@@ -1,8 +1,8 @@
 use crate::calls::{Kinds, PATTERN};
-use crate::cases::{read_length, read_words};
+use crate::cases::{read_kind, read_length, read_words};
 use crate::report::show_denial;
-use console::no_case::{NoCase, print_no_case};
-use console::output::Words;
+use console::no_case::NoCase;
+use console::output::{Checked, Words};
 use finder::clash::Clash;
 use finder::finding::find_clash;
 use kinds::drill::Drill;
@@ -16,20 +16,13 @@ use std::io;
 // The words between two colons, or nothing, as a claim, which `-` stands for.
 type Section = Option<Vec<u64>>;
 
-// Whether an opening is checked, or a clash of two looked for with that much room for its pairs.
-#[derive(Clone, Copy)]
-enum Asked {
-    Check,
-    Find { room: usize },
-}
-
-// What stands before the first colon.
+// What stands before the first colon. With room for its pairs, a clash of two openings is looked for; with none, one is checked.
 #[derive(Clone, Copy)]
 struct Head {
-    asked: Asked,
     kind: KindName,
     depth: u8,
     place: u16,
+    room: Option<usize>,
 }
 
 fn read_section(heap: Global, text: &str) -> Result<Section, NoCase> {
@@ -39,26 +32,18 @@ fn read_section(heap: Global, text: &str) -> Result<Section, NoCase> {
     Ok(Some(read_words(heap, text)?))
 }
 
-fn read_asked(name: &str, room: Option<usize>) -> Result<Asked, NoCase> {
-    match (name, room) {
-        ("check", None) => Ok(Asked::Check),
-        ("find", Some(room)) => Ok(Asked::Find { room }),
-        _ => Err(NoCase::Form),
-    }
-}
-
 fn read_head(text: &str) -> Result<Head, NoCase> {
     let mut parts = text.split_whitespace();
-    let name = parts.next().ok_or(NoCase::Form)?;
-    let kind = parts.next().ok_or(NoCase::Form)?.parse::<KindName>()?;
+    parts.next().ok_or(NoCase::Form)?;
+    let kind = read_kind(parts.next().ok_or(NoCase::Form)?)?;
     let depth = parts.next().ok_or(NoCase::Form)?.parse::<u8>()?;
     let place = parts.next().ok_or(NoCase::Form)?.parse::<u16>()?;
     let room = parts.next().map(read_length).transpose()?;
     Ok(Head {
-        asked: read_asked(name, room)?,
         kind,
         depth,
         place,
+        room,
     })
 }
 
@@ -79,18 +64,15 @@ fn run_check<K: Kind>(rt: &HostRuntime, kind: &K, head: Head, s: &[Section]) -> 
     let [root, claim, path] = s else {
         return println!(rt; "a check has three sections");
     };
-    match check(
+    let checked = Checked(check(
         kind,
         words_of(root),
         head.depth,
         head.place,
         claim.as_deref(),
         words_of(path),
-    ) {
-        Ok(true) => println!(rt; "accepted"),
-        Ok(false) => println!(rt; "not accepted"),
-        Err(why) => show_denial(rt, why, true),
-    }
+    ));
+    println!(rt; "{checked}")
 }
 
 fn show_clash(rt: &HostRuntime, clash: Clash, out: &[u64], kept: bool) -> io::Result<()> {
@@ -142,9 +124,9 @@ fn run_find<K: Kind>(
 }
 
 fn run_any<K: Kind>(rt: &HostRuntime, kind: &K, head: Head, s: &[Section]) -> io::Result<()> {
-    match head.asked {
-        Asked::Find { room } => run_find(rt, kind, head, room, s),
-        Asked::Check => run_check(rt, kind, head, s),
+    match head.room {
+        Some(room) => run_find(rt, kind, head, room, s),
+        None => run_check(rt, kind, head, s),
     }
 }
 
@@ -155,19 +137,12 @@ fn read_opened(heap: Global, text: &str) -> Result<(Head, Vec<Section>), NoCase>
 }
 
 // A line that begins `check KIND DEPTH PLACE` or `find KIND DEPTH PLACE ROOM`.
-pub(crate) fn run_opened(
-    rt: &HostRuntime,
-    kinds: &Kinds,
-    number: usize,
-    text: &str,
-) -> io::Result<()> {
-    let (head, sections) = match read_opened(rt.alloc(), text) {
-        Ok(read) => read,
-        Err(why) => return print_no_case(rt, number, why),
-    };
+pub(crate) fn run_opened(rt: &HostRuntime, kinds: &Kinds, text: &str) -> Result<(), NoCase> {
+    let (head, sections) = read_opened(rt.alloc(), text)?;
     match head.kind {
-        KindName::Drill => run_any(rt, &Drill, head, &sections),
-        KindName::Rpo128 => run_any(rt, &kinds.rpo128, head, &sections),
-        KindName::Rpo160 => run_any(rt, &kinds.rpo160, head, &sections),
+        KindName::Drill => run_any(rt, &Drill, head, &sections)?,
+        KindName::Rpo128 => run_any(rt, &kinds.rpo128, head, &sections)?,
+        KindName::Rpo160 => run_any(rt, &kinds.rpo160, head, &sections)?,
     }
+    Ok(())
 }

@@ -1,11 +1,11 @@
-use console::output::Words;
+use console::output::{Words, print_refusal};
 use kinds::denial::Denial;
 use std::io;
 
 // A denial, and whether it left its buffer.
 pub(crate) fn show_denial(rt: &impl Print, why: Denial, kept: bool) -> io::Result<()> {
     if kept {
-        println!(rt; "no {why}")
+        print_refusal(rt, why)
     } else {
         println!(rt; "no {why} changed")
     }
