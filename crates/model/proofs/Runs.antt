@@ -1,13 +1,10 @@
 -- What stands after any calls, and the laws of a lot.
 use Rattle.std.proofs.Common.{ℕ, List, [], ◌∷◌}
-use Rattle.kinds.specs.Kinds.{State, Sound}
+use Rattle.kinds.specs.Kinds.{Sound}
 use Rattle.model.specs.Calls.{Call, History}
-use Rattle.model.specs.Histories.{last_record}
-use Rattle.model.specs.Trees.{leaf}
-use Rattle.model.specs.Lots.{Lot, newly_made, step, run, history_of}
+use Rattle.model.specs.Lots.{Lot, newly_made, step, run}
 use Rattle.model.specs.Bench.{bench_of}
 use Rattle.model.specs.Laws.{AfterAny, LotLaws}
-use Rattle.model.proofs.Hands.{leaf_state}
 use Rattle.model.proofs.Stands.{Stands, keeps, new_stands}
 use Rattle.model.proofs.Steps.{answered, buffer_left, stepped}
 
@@ -18,10 +15,6 @@ module _ {n c w : ℕ} {F : List ℕ → List ℕ} (sound : Sound n c w F) where
 
   pub stands_after : AfterAny c w F (λ d l h. Stands c w F (bench_of d h) l)
   stands_after d ks small = ran d ks (newly_made w d, []) (new_stands c w F d small)
-
-  -- the leaf of every place is made of w elements
-  pub leaves_states : AfterAny c w F (λ d l h. (p : ℕ) → State w (leaf c w F (last_record h p)))
-  leaves_states d ks small p = leaf_state sound (last_record (history_of c w F d ks) p) ((stands_after d ks small).records_fair p)
 
   pub lot_laws : LotLaws c w F
   lot_laws = record {
