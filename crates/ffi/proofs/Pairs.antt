@@ -24,7 +24,7 @@ module _ (w : ℕ) (a b out : List ℕ) where
   pair_granted : State w a → State w b → length out ≡ w → pair_answer w a b out ≡ granted
   pair_granted sa sb so =
       granted_by (bad_buffer w a ∷ bad_buffer w b ∷ bad_buffer w out ∷ not_elements (a ++ b) ∷ [])
-          (good_buffer w a sa.long, (good_buffer w b sb.long, (good_buffer w out so, (good_elements (a ++ b) (each_append a b sa.each sb.each), tt))))
+      (good_buffer w a sa.long, (good_buffer w b sb.long, (good_buffer w out so, (good_elements (a ++ b) (each_append a b sa.each sb.each), tt))))
 
 -- before the turn i of a chain over start, b and room: what a and out hold
 module _ (c w : ℕ) (F : List ℕ → List ℕ) (b start room : List ℕ) where
