@@ -7,30 +7,26 @@ use lots::lot::Lot;
 use rpo_kinds::names::KindName;
 use rpo_kinds::rpo128::Rpo128;
 use rpo_kinds::rpo160::Rpo160;
+use script::any::OfKind;
 use std::io;
 
 // A lot of one of the kinds.
-#[derive(Drop)]
-enum AnyLot {
-    Drill(LotInHand<Drill>),
-    Rpo128(LotInHand<Rpo128>),
-    Rpo160(LotInHand<Rpo160>),
-}
+type AnyLot = OfKind<LotInHand<Drill>, LotInHand<Rpo128>, LotInHand<Rpo160>>;
 
 fn new_lot(rt: &HostRuntime, kind: KindName) -> Result<AnyLot, Unread> {
     let heap = rt.alloc();
     Ok(match kind {
-        KindName::Drill => AnyLot::Drill(LotInHand::Filling(Lot::new(heap, Drill)?)),
-        KindName::Rpo128 => AnyLot::Rpo128(LotInHand::Filling(Lot::new(heap, Rpo128::new())?)),
-        KindName::Rpo160 => AnyLot::Rpo160(LotInHand::Filling(Lot::new(heap, Rpo160::new())?)),
+        KindName::Drill => OfKind::Drill(LotInHand::Filling(Lot::new(heap, Drill)?)),
+        KindName::Rpo128 => OfKind::Rpo128(LotInHand::Filling(Lot::new(heap, Rpo128::new())?)),
+        KindName::Rpo160 => OfKind::Rpo160(LotInHand::Filling(Lot::new(heap, Rpo160::new())?)),
     })
 }
 
 fn turn_any(rt: &impl Print, lot: AnyLot, command: &Command) -> io::Result<AnyLot> {
     Ok(match lot {
-        AnyLot::Drill(l) => AnyLot::Drill(turn(rt, &Drill, l, command)?),
-        AnyLot::Rpo128(l) => AnyLot::Rpo128(turn(rt, &Rpo128::new(), l, command)?),
-        AnyLot::Rpo160(l) => AnyLot::Rpo160(turn(rt, &Rpo160::new(), l, command)?),
+        OfKind::Drill(l) => OfKind::Drill(turn(rt, &Drill, l, command)?),
+        OfKind::Rpo128(l) => OfKind::Rpo128(turn(rt, &Rpo128::new(), l, command)?),
+        OfKind::Rpo160(l) => OfKind::Rpo160(turn(rt, &Rpo160::new(), l, command)?),
     })
 }
 

@@ -42,29 +42,20 @@ fn print_written<F: FnOnce(&mut [u64]) -> Result<(), Denial>>(
     }
 }
 
-// A call of a filling lot that has no buffer.
-fn call<K: Kind>(lot: &mut Lot<K>, command: &Command) -> Option<Result<(), Denial>> {
-    match command {
-        Command::Make(depth) => Some(lot.make(*depth)),
-        Command::Begin(station, place, length) => Some(lot.begin(*station, *place, *length)),
-        Command::Feed(station, word) => Some(lot.feed(*station, *word)),
-        Command::FeedEight(station, words) => Some(lot.feed_eight(*station, words)),
-        Command::Seal(station) => Some(lot.seal(*station)),
-        Command::Abandon(station) => Some(lot.abandon(*station)),
-        Command::Clear(place) => Some(lot.clear(*place)),
-        _ => None,
-    }
-}
-
 // A call of a filling lot.
 fn fill<K: Kind>(rt: &impl Print, lot: &mut Lot<K>, command: &Command) -> io::Result<()> {
-    match call(lot, command) {
-        Some(answer) => print_answer(rt, answer),
-        None => match command {
-            Command::Root => print_written(rt, "root", K::DIGEST, |out| lot.root(out)),
-            _ => println!(rt; "not while the lot is filled"),
-        },
-    }
+    let answer = match command {
+        Command::Make(depth) => lot.make(*depth),
+        Command::Begin(station, place, length) => lot.begin(*station, *place, *length),
+        Command::Feed(station, word) => lot.feed(*station, *word),
+        Command::FeedEight(station, words) => lot.feed_eight(*station, words),
+        Command::Seal(station) => lot.seal(*station),
+        Command::Abandon(station) => lot.abandon(*station),
+        Command::Clear(place) => lot.clear(*place),
+        Command::Root => return print_written(rt, "root", K::DIGEST, |out| lot.root(out)),
+        _ => return println!(rt; "not while the lot is filled"),
+    };
+    print_answer(rt, answer)
 }
 
 // Opens a place of a closed lot, and checks the opening under the lot's root.
