@@ -14,8 +14,8 @@ use std::io;
 // All lines of a script, and then `end`.
 fn run_script(rt: &HostRuntime, script: &[u8]) -> io::Result<()> {
     match Runner::new(rt.alloc(), script) {
-        Ok(runner) => {
-            print_lines(rt, runner)?;
+        Ok(mut runner) => {
+            print_lines(rt, &mut runner)?;
             println!(rt; "end")
         }
         Err(_) => println!(rt; "no memory"),

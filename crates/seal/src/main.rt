@@ -11,7 +11,7 @@ fn main(rt: HostRuntime) -> io::Result<()> {
     let mut script = Vec::new(rt.alloc());
     rt.stdin().take(65537).read_to_end(&mut script)?;
     match Runner::new(rt.alloc(), &script) {
-        Ok(runner) => print_lines(&rt, runner),
+        Ok(mut runner) => print_lines(&rt, &mut runner),
         Err(_) => println!(rt; "no memory"),
     }
 }
