@@ -1,4 +1,4 @@
-ghost use Rattle.std.specs.Prelude.{◌≡◌, List, Some};
+ghost use Rattle.std.specs.Prelude.{◌≡◌, Some};
 ghost use Rattle.std.specs.Option.{option_to_list};
 ghost use Rattle.kinds.specs.Denials.{number_of, layer_of, values_of, layer_word, denial_text};
 
@@ -104,7 +104,7 @@ impl fmt::Display for Denial {
 
     fn fmt<W: fmt::Write>(&self, f: &mut fmt::Formatter<W>) -> fmt::Result {
         let number = self.number();
-        let layer = self.layer().word();
+        let layer = self.layer();
         match self.index() {
             Some(i) => write!(f, "{number} {layer} {i}"),
             None => write!(f, "{number} {layer}"),

@@ -1,4 +1,3 @@
-ghost use Rattle.std.specs.Prelude.{◌≡◌};
 ghost use Rattle.kinds.specs.Kinds.{drill};
 ghost use Rattle.std.proofs.Common.{rules};
 

@@ -69,8 +69,8 @@ impl Sponge {
     }
 
     // Fills the last block up, and gives the digest.
-    pub fn finish<K: Kind>(&mut self, kind: &K) -> Digest<K>
-        ensures { result ≡ finished K.CAPACITY K.DIGEST K.mapping (held K.CAPACITY K.DIGEST self.old) }
+    pub fn finish<K: Kind>(mut self, kind: &K) -> Digest<K>
+        ensures { result ≡ finished K.CAPACITY K.DIGEST K.mapping (held K.CAPACITY K.DIGEST self) }
     {
         self.fill_up(kind);
         Digest::cut(&self.state[..K::state_len()])

@@ -64,7 +64,7 @@ impl Station {
         ensures step { (shown K.CAPACITY K.DIGEST self.new, told result) ≡ seal_step (shown K.CAPACITY K.DIGEST self.old) }
         ensures sealed { IfOk result (λ r. Sealed K.CAPACITY K.DIGEST K.mapping (shown K.CAPACITY K.DIGEST self.old) r.0 r.1) }
     {
-        let mut record = self.record.ok_or(Denial::StationIdle)?;
+        let record = self.record.ok_or(Denial::StationIdle)?;
         if record.got < record.length {
             return Err(Denial::RecordShort);
         }
