@@ -1,4 +1,4 @@
-use console::output::{print_refusal, print_words};
+use console::output::{Named, Refused};
 use finder::clash::Clash;
 use finder::finding::find_clash;
 use kinds::drill::Drill;
@@ -50,11 +50,14 @@ pub(crate) fn print_clash(rt: &impl Print, told: &TwoOpenings) -> io::Result<()>
         &mut out,
     ) {
         Ok(Clash::Pairs { level }) => {
-            print!(rt; "level {level}, ")?;
-            print_words(rt, "pairs", &out)
+            let pairs = Named {
+                name: "pairs",
+                words: &out,
+            };
+            println!(rt; "level {level}, {pairs}")
         }
         Ok(Clash::Records) => println!(rt; "the two records"),
         Ok(Clash::ZeroRecord { .. }) => println!(rt; "a record whose digest is all zeros"),
-        Err(why) => print_refusal(rt, why),
+        Err(why) => println!(rt; "{}", Refused(why)),
     }
 }

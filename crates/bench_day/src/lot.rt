@@ -1,7 +1,7 @@
 ghost use Rattle.std.specs.Prelude.{◌≤◌};
 
 use crate::command::Command;
-use console::output::{Checked, print_refusal, print_words};
+use console::output::{Checked, Named, Refused};
 use kinds::denial::Denial;
 use kinds::kind::Kind;
 use lots::closed::ClosedLot;
@@ -20,7 +20,7 @@ pub enum LotInHand<K: Kind> {
 fn print_answer(rt: &impl Print, answer: Result<(), Denial>) -> io::Result<()> {
     match answer {
         Ok(()) => println!(rt; "ok"),
-        Err(why) => print_refusal(rt, why),
+        Err(why) => println!(rt; "{}", Refused(why)),
     }
 }
 
@@ -37,8 +37,8 @@ fn print_written<F: FnOnce(&mut [u64]) -> Result<(), Denial>>(
     let mut room = [0u64; 64];
     let out = &mut room[..n];
     match call(out) {
-        Ok(()) => print_words(rt, name, out),
-        Err(why) => print_refusal(rt, why),
+        Ok(()) => println!(rt; "{}", Named { name, words: out }),
+        Err(why) => println!(rt; "{}", Refused(why)),
     }
 }
 

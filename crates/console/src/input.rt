@@ -1,5 +1,6 @@
 ghost use Rattle.std.specs.Prelude.{◌≤◌, IfOk, vec_len};
 ghost use Rattle.std.specs.String.{string_vec};
+ghost use Rattle.console.specs.Numbers.{Appended};
 
 use rpo_kinds::names::UnknownKind;
 use std::alloc::{AllocError, AllocFailed};
@@ -94,7 +95,9 @@ pub fn parse_numbers(
     line: usize,
     first: usize,
     text: &str,
-) -> Result<(), Unread> {
+) -> Result<(), Unread>
+    ensures { IfOk result (λ done. Appended text.now words.old.items words.new.items) }
+{
     for (i, part) in text.split_whitespace().enumerate() {
         let word = i.saturating_add(first);
         let x = part

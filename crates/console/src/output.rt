@@ -1,9 +1,9 @@
 ghost use Rattle.std.specs.Prelude.{Some};
-ghost use Rattle.console.specs.Checks.{check_text};
-ghost use Rattle.console.specs.Words.{words_text};
+ghost use Rattle.console.specs.Checks.{refused_text, check_text};
+ghost use Rattle.console.specs.Words.{words_text, named_text};
 
 use kinds::denial::Denial;
-use std::{fmt, io};
+use std::fmt;
 
 // Words with a space between each two.
 #[derive(Clone, Copy)]
@@ -23,6 +23,19 @@ impl fmt::Display for Words<'_> {
     }
 }
 
+// A refusal: its number, its layer, and the index of a word where there is one.
+#[derive(Clone, Copy)]
+pub struct Refused(pub Denial);
+
+impl fmt::Display for Refused {
+    ghost output = { λ refused. Some (refused_text refused.0) };
+
+    fn fmt<W: fmt::Write>(&self, f: &mut fmt::Formatter<W>) -> fmt::Result {
+        let why = self.0;
+        write!(f, "no {why}")
+    }
+}
+
 // What the check of an opening answers.
 #[derive(Clone, Copy)]
 pub struct Checked(pub Result<bool, Denial>);
@@ -34,22 +47,27 @@ impl fmt::Display for Checked {
         match self.0 {
             Ok(true) => write!(f, "accepted"),
             Ok(false) => write!(f, "not accepted"),
-            Err(why) => write!(f, "no {why}"),
+            Err(why) => Refused(why).fmt(f),
         }
     }
 }
 
-// A refusal: its number, its layer, and the index of a word where there is one.
-pub fn print_refusal(rt: &impl Print, why: Denial) -> io::Result<()> {
-    println!(rt; "no {why}")
+// A name, and words after it.
+#[derive(Clone, Copy)]
+pub struct Named<'a> {
+    pub name: &'a str,
+    pub words: &'a [u64],
 }
 
-// A name, and words after it where there are any.
-pub fn print_words(rt: &impl Print, name: &str, words: &[u64]) -> io::Result<()> {
-    if words.is_empty() {
-        println!(rt; "{name}")
-    } else {
-        let words = Words(words);
-        println!(rt; "{name} {words}")
+impl fmt::Display for Named<'_> {
+    ghost output = { λ named. Some (named_text named.name.now named.words.now) };
+
+    fn fmt<W: fmt::Write>(&self, f: &mut fmt::Formatter<W>) -> fmt::Result {
+        let name = self.name;
+        write!(f, "{name}")?;
+        for word in self.words {
+            write!(f, " {word}")?;
+        }
+        Ok(())
     }
 }

@@ -1,4 +1,4 @@
-use console::output::{print_refusal, print_words};
+use console::output::{Named, Refused};
 use kinds::kind::Kind;
 use rpo_kinds::names::KindName;
 use sponge::digest::digest;
@@ -28,9 +28,13 @@ fn print_digest<K: Kind>(rt: &impl Print, kind: &K, words: &[u64]) -> io::Result
     match digest(kind, words, out) {
         Ok(()) => {
             explain::<K>(rt, words.len())?;
-            print_words(rt, "digest:", out)
+            let digest = Named {
+                name: "digest:",
+                words: out,
+            };
+            println!(rt; "{digest}")
         }
-        Err(why) => print_refusal(rt, why),
+        Err(why) => println!(rt; "{}", Refused(why)),
     }
 }
 

@@ -1,5 +1,5 @@
 use crate::question::Question;
-use console::output::{Checked, Words, print_refusal};
+use console::output::{Checked, Refused, Words};
 use finder::clash::Clash;
 use finder::finding::find_clash;
 use kinds::kind::Kind;
@@ -42,7 +42,7 @@ fn compare<K: Kind>(
         pairs,
     ) {
         Ok(clash) => print_clash(rt, clash, pairs),
-        Err(why) => print_refusal(rt, why),
+        Err(why) => println!(rt; "{}", Refused(why)),
     }
 }
 

@@ -1,11 +1,11 @@
-use console::output::{Words, print_refusal};
+use console::output::{Refused, Words};
 use kinds::denial::Denial;
 use std::io;
 
 // A denial, and whether it left its buffer.
 pub(crate) fn show_denial(rt: &impl Print, why: Denial, kept: bool) -> io::Result<()> {
     if kept {
-        print_refusal(rt, why)
+        println!(rt; "{}", Refused(why))
     } else {
         println!(rt; "no {why} changed")
     }
