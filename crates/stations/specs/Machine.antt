@@ -1,20 +1,14 @@
 -- What the program's station shows of the model's one, and what a call at one station answers and leaves.
-use Rattle.std.specs.Prelude.{◌≡◌, ℕ, not, List, [], ◌∷◌, length, nat_lt, Option, Some, None, slice_set}
+use Rattle.std.specs.Prelude.{◌≡◌, ℕ, not, List, [], ◌∷◌, length, nat_lt, slice_set}
 use Rattle.kinds.specs.Answers.{Answer, Cause, answer, if_granted}
 use Rattle.kinds.specs.Words.{not_elements}
 use Rattle.sponge.specs.Calls.{bad_length}
-use Rattle.sponge.specs.Streams.{held}
-use Rattle.model.specs.Lots.{Station, idle, busy, is_idle, lacks, begun_for, fed_with, sealed_into}
-use Rattle.stations.specs.declared.station.Record.{Record}
+use Rattle.model.specs.Lots.{Station, idle, is_idle, lacks, begun_for, fed_with, sealed_into}
+use Rattle.stations.specs.Phases.{shown_in}
 use Rattle.stations.specs.declared.station.Station as program
 
--- what a record in hand shows, or none
-abbrev pub in_hand : ℕ → ℕ → Option Record → Station
-in_hand c w None = idle
-in_hand c w (Some r) = busy r.place r.length r.got (held c w r.sponge)
-
 abbrev pub shown : ℕ → ℕ → program.Station → Station
-shown c w s = in_hand c w s.record
+shown c w s = shown_in c w s.phase
 
 -- a station after a call with these causes of refusal, which leaves `new` where it is granted; and the answer
 abbrev pub called : List Cause → Station → Station → Station × Answer

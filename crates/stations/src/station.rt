@@ -1,21 +1,13 @@
-ghost use Rattle.std.specs.Prelude.{◌≤◌};
+ghost use Rattle.std.specs.Prelude.{◌≡◌, true};
+ghost use Rattle.stations.specs.Phases.{sound};
 
-use sponge::sponge::Sponge;
+use crate::phase::Phase;
 
 pub mod calls;
 
-// A record in hand: the place that it is for, its stated length, how many of its elements came, and the sponge that took them.
-#[derive(Clone, Copy)]
-pub struct Record {
-    place: usize,
-    length: usize,
-    got: usize,
-    sponge: Sponge,
-    ghost within: { got ≤ length },
-}
-
-// One station: idle, or with a record in hand.
+// One station, a machine in place.
 #[derive(Clone, Copy)]
 pub struct Station {
-    record: Option<Record>,
+    phase: Phase,
+    ghost sound: { sound phase ≡ true },
 }
