@@ -1,7 +1,10 @@
 -- What stands at a place of a script.
 use Rattle.std.specs.Prelude.{ℕ, ◌+◌, cond, List, length, take, drop, Some, None, Ok, Err, Option, Result, nat_le, slice_index}
 use Rattle.reader.specs.declared.verbs.Verb.{Verb}
+use Rattle.reader.specs.declared.verbs.Verb.TheVariants as verb
 use Rattle.reader.specs.declared.commands.Command.{Command}
+use Rattle.reader.specs.declared.commands.Command.TheVariants as command
+use Rattle.reader.specs.declared.commands.Part.{Part}
 use Rattle.reader.specs.declared.fault.ScriptFault.{ScriptFault}
 use Rattle.reader.specs.declared.fault.ScriptFault.TheVariants as fault
 use Rattle.reader.specs.Verbs.{verb_of, width_of}
@@ -36,8 +39,20 @@ read_at script at = cond (nat_le (length script) at) None (Some (read_command sc
 
 -- what the program returns, with the borrowed bytes read out
 
+abbrev pub read_part : Verb → Part → Read
+read_part v part = record { verb = v; operands = part.operands.now; from = part.at }
+
 abbrev pub said : Command → Read
-said c = record { verb = c.verb; operands = c.operands.now; from = c.at }
+said (command.Start part) = read_part verb.Start part
+said (command.Begin part) = read_part verb.Begin part
+said (command.Feed part) = read_part verb.Feed part
+said (command.FeedEight part) = read_part verb.FeedEight part
+said (command.Seal part) = read_part verb.Seal part
+said (command.Abandon part) = read_part verb.Abandon part
+said (command.Clear part) = read_part verb.Clear part
+said (command.Root part) = read_part verb.Root part
+said (command.Open part) = read_part verb.Open part
+said (command.Close part) = read_part verb.Close part
 
 abbrev pub told : Result (Command × ℕ) ScriptFault → Reading
 told (Ok p) = Ok (said p.0, p.1)

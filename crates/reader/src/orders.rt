@@ -2,9 +2,8 @@ ghost use Rattle.std.specs.Prelude.{◌≡◌};
 ghost use Rattle.reader.specs.Commands.{said};
 ghost use Rattle.reader.specs.Orders.{order_of};
 
-use crate::commands::Command;
+use crate::commands::{Command, Part};
 use crate::numbers::{byte_at, eight_words, u16_at, u64_at};
-use crate::verbs::Verb;
 
 // What a command asks for, with its operands as numbers.
 #[derive(Clone, Copy)]
@@ -46,39 +45,38 @@ impl From<Command<'_>> for Order {
     ghost from_gives = { λ command order. order ≡ order_of (said command) };
 
     fn from(command: Command<'_>) -> Order {
-        let operands = command.operands;
-        match command.verb {
-            Verb::Start => Order::Start {
+        match command {
+            Command::Start(Part { operands, .. }) => Order::Start {
                 kind: byte_at(operands, 0),
                 depth: byte_at(operands, 1),
             },
-            Verb::Begin => Order::Begin {
+            Command::Begin(Part { operands, .. }) => Order::Begin {
                 station: byte_at(operands, 0),
                 place: u16_at(operands, 1),
                 length: u16_at(operands, 3),
             },
-            Verb::Feed => Order::Feed {
+            Command::Feed(Part { operands, .. }) => Order::Feed {
                 station: byte_at(operands, 0),
                 word: u64_at(operands, 1),
             },
-            Verb::FeedEight => Order::FeedEight {
+            Command::FeedEight(Part { operands, .. }) => Order::FeedEight {
                 station: byte_at(operands, 0),
                 words: eight_words(operands),
             },
-            Verb::Seal => Order::Seal {
+            Command::Seal(Part { operands, .. }) => Order::Seal {
                 station: byte_at(operands, 0),
             },
-            Verb::Abandon => Order::Abandon {
+            Command::Abandon(Part { operands, .. }) => Order::Abandon {
                 station: byte_at(operands, 0),
             },
-            Verb::Clear => Order::Clear {
+            Command::Clear(Part { operands, .. }) => Order::Clear {
                 place: u16_at(operands, 0),
             },
-            Verb::Root => Order::Root,
-            Verb::Open => Order::Open {
+            Command::Root(_) => Order::Root,
+            Command::Open(Part { operands, .. }) => Order::Open {
                 place: u16_at(operands, 0),
             },
-            Verb::Close => Order::Close,
+            Command::Close(_) => Order::Close,
         }
     }
 }

@@ -1,7 +1,7 @@
 ghost use Rattle.std.specs.Prelude.{◌≡◌, ◌<◌, length, slice_index};
 ghost use Rattle.reader.specs.Commands.{told, read_command, all_told, read_at};
 
-use crate::commands::Command;
+use crate::commands::{Command, Part};
 use crate::fault::ScriptFault;
 use crate::verbs::Verb;
 
@@ -19,7 +19,8 @@ fn read_command<'a>(
     let operands = script[at + 1..]
         .get(..verb.width())
         .ok_or(ScriptFault::CutShort(at))?;
-    Ok((Command { verb, operands, at }, at + 1 + operands.len()))
+    let command = Command::new(verb, Part { operands, at });
+    Ok((command, at + 1 + operands.len()))
 }
 
 // The command at a place and the place after it; none where the script has no byte.

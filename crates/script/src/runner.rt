@@ -54,7 +54,7 @@ impl<'a> Runner<'a> {
         let at = self.at;
         let next = read_at(self.script, at)?;
         match next {
-            Ok((read, _)) if !phase.allows(read.verb) => Some(Err(ScriptFault::OutOfPhase(at))),
+            Ok((read, _)) if !phase.allows(read.verb()) => Some(Err(ScriptFault::OutOfPhase(at))),
             _ => Some(next),
         }
     }

@@ -1,4 +1,4 @@
-use Rattle.std.proofs.Common.{◌≡◌, Ok, Err, None, Some, inl, inr, rules, arith}
+use Rattle.std.proofs.Common.{◌≡◌, ◌+◌, length, Ok, Err, None, Some, inl, inr, ap, ◌∙◌, rules, arith}
 use Rattle.reader.specs.Commands.{read_command}
 use Rattle.reader.specs.declared.fault.ScriptFault.TheVariants as fault
 use Rattle.reader.specs.Verbs.{verb_in}
@@ -25,4 +25,5 @@ returns c =
     let some : c.get.result ≡ Some c.in_ok-operands.operands = search rules in
     let known : Ok c.in_ok-verb.verb ≡ verb_in c.args.first = search rules in
     let there = (rw some at c.get.ensures.lookup).0 in
-    read_whole c.args.script.now c.args.at c.width.result c.in_ok-verb.verb c.width.ensures.exact (rw c.requires.there at known) c.in_ok-operands.operands.now c.requires.within there.1 there.2
+    ap (λ read. Ok (read, c.args.at + 1 + length c.in_ok-operands.operands.now)) c.new-command.ensures
+    ∙ read_whole c.args.script.now c.args.at c.width.result c.in_ok-verb.verb c.width.ensures.exact (rw c.requires.there at known) c.in_ok-operands.operands.now c.requires.within there.1 there.2
