@@ -1,3 +1,4 @@
 pub mod Going
 pub mod Reading
+pub mod Lots
 pub mod Commands

@@ -1,3 +1,4 @@
 pub mod Laws
 pub mod Transcripts
+pub mod Commands
 pub mod Lots

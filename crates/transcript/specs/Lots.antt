@@ -1,42 +1,82 @@
--- Whole scripts: whatever the bytes, the lot that the lines speak of is one that a run of lot calls leaves, closed or not.
-use Rattle.std.specs.Prelude.{◌≡◌, ℕ, zero, suc, ◌≤◌, List, Some, None, Option}
-use Rattle.reader.specs.Commands.{Reading}
-use Rattle.model.specs.Calls.{Call}
+-- Whole scripts: one line for each command, and each is told by the lot that the calls of the commands before it leave.
+use Rattle.std.specs.Prelude.{◌≡◌, ℕ, Bool, true, false, cond, List, [], ◌∷◌, ◌++◌, replicate, Ok, Err, Result}
+use Rattle.std.specs.List.{concat}
+use Rattle.lines.specs.Lines.{ok_line}
+use Rattle.reader.specs.declared.orders.Order.{Order}
+use Rattle.reader.specs.declared.orders.Order.TheVariants as order
+use Rattle.reader.specs.declared.fault.ScriptFault.{ScriptFault}
+use Rattle.reader.specs.declared.fault.ScriptFault.TheVariants as fault
+use Rattle.model.specs.Calls.{Call, begin, feed, feed_eight, seal, abandon, clear, root}
 use Rattle.model.specs.Lots.{Lot, lot_after}
-use Rattle.model.specs.Closed as model
+use Rattle.model.specs.Closed.{closed}
 use Rattle.rpo_kinds.specs.declared.names.KindName.{KindName}
-use Rattle.script.specs.Stages.{capacity, digest, mixing, Stage, before, filling, closed, ended}
-use Rattle.script.specs.Runs.{Run, fresh, next_command, turn}
+use Rattle.turns.specs.Answers.{fault_line}
+use Rattle.turns.specs.Turns.{filled, asked}
+use Rattle.script.specs.Stages.{capacity, digest, mixing, started, start_with}
+use Rattle.transcript.specs.Transcripts.{transcript}
+use Rattle.transcript.specs.Commands.{Asked, commands}
 
--- one line further, where there is one
-abbrev pub advanced_by : Run → Option Reading → Run
-advanced_by r None = r
-advanced_by r (Some x) = (turn r x).0
+-- the call of a lot with digests of w numbers that a command asks for, if it asks for one
+abbrev pub call_of : ℕ → Order → List Call
+call_of w (order.Begin s p n) = begin s p n ∷ []
+call_of w (order.Feed s x) = feed s x ∷ []
+call_of w (order.FeedEight s xs) = feed_eight s xs ∷ []
+call_of w (order.Seal s) = seal s ∷ []
+call_of w (order.Abandon s) = abandon s ∷ []
+call_of w (order.Clear p) = clear p ∷ []
+call_of w order.Root = root (replicate w 0) ∷ []
+call_of w o = []
 
--- the run after n lines
-abbrev pub after_lines : ℕ → Run → Run
-after_lines zero r = r
-after_lines (suc n) r = advanced_by (after_lines n r) (next_command (after_lines n r))
+abbrev pub is_close : Result Order ScriptFault → Bool
+is_close (Ok order.Close) = true
+is_close o = false
 
--- a lot of a kind that calls leave, from one newly made with a depth of at most 8
-pub record LeftByCalls (kind : KindName) (lot : Lot) : Type 0 where
-  pub depth : ℕ
-  pub calls : List Call
-  pub shallow : depth ≤ 8
-  pub is_left : lot ≡ lot_after (capacity kind) (digest kind) (mixing kind) depth calls
+abbrev pub closes : List Asked → Bool
+closes [] = false
+closes (a ∷ more) = cond (is_close a.0) true (closes more)
 
--- such a lot, closed
-pub record ClosedAfterCalls (kind : KindName) (lot : model.Closed) : Type 0 where
-  pub filled : Lot
-  pub left : LeftByCalls kind filled
-  pub is_closed : lot ≡ model.closed (capacity kind) (digest kind) (mixing kind) filled
+abbrev pub call_asked : ℕ → Result Order ScriptFault → List Call
+call_asked w (Ok o) = call_of w o
+call_asked w (Err f) = []
 
-abbrev pub OfCalls : Stage → Type 0
-OfCalls before = Unit {0}
-OfCalls (filling l) = LeftByCalls l.0 l.1
-OfCalls (closed l) = ClosedAfterCalls l.0 l.1
-OfCalls ended = Unit {0}
+-- the calls that commands ask for, up to the close
+abbrev pub calls_of : ℕ → List Asked → List Call
+calls_of w [] = []
+calls_of w (a ∷ more) = cond (is_close a.0) [] (call_asked w a.0 ++ calls_of w more)
 
--- whatever the script, after any number of its lines
-abbrev pub ScriptsRunLots : Type 0
-ScriptsRunLots = (script : List ℕ) (n : ℕ) → OfCalls (after_lines n (fresh script)).stage
+module _ (kind : KindName) (depth : ℕ) where
+  -- the lot behind commands: what the run of their calls leaves of a lot newly made
+  abbrev pub lot_behind : List Asked → Lot
+  lot_behind before = lot_after (capacity kind) (digest kind) (mixing kind) depth (calls_of (digest kind) before)
+
+  -- the line of the command behind them: the answer of its call to that lot, or to that lot closed
+  abbrev pub order_line : List Asked → Order → ℕ → List ℕ
+  order_line before order.Close at = ok_line
+  order_line before o at =
+      cond (closes before) (asked (digest kind) (closed (capacity kind) (digest kind) (mixing kind) (lot_behind before)) o at)
+      (filled (capacity kind) (digest kind) (mixing kind) (lot_behind before) o at).1
+
+-- the lot that the first command makes, or the fault in its place
+abbrev pub started_by : Asked → Result (KindName × Lot) ScriptFault
+started_by (Ok (order.Start kind depth), at) = started kind depth at
+started_by (Ok o, at) = Err (fault.OutOfPhase at)
+started_by (Err f, at) = Err f
+
+-- the line of a command behind others, of which the first made the lot; none is behind a first that is denied
+abbrev pub lot_line : Result (KindName × Lot) ScriptFault → List Asked → Asked → List ℕ
+lot_line (Err f) before a = []
+lot_line (Ok l) before (Err f, at) = fault_line f at
+lot_line (Ok l) before (Ok o, at) = order_line l.0 l.1.depth before o at
+
+abbrev pub line_behind : List Asked → Asked → List ℕ
+line_behind [] a = (start_with (started_by a) a.1).1
+line_behind (first ∷ before) a = lot_line (started_by first) before a
+
+-- one line for each command
+abbrev pub lines_behind : List Asked → List Asked → List (List ℕ)
+lines_behind before [] = []
+lines_behind before (a ∷ more) = line_behind before a ∷ lines_behind (before ++ a ∷ []) more
+
+-- the lines of a script are those of its commands
+abbrev pub LinesOfCommands : Type 0
+LinesOfCommands = (script : List ℕ) → transcript script ≡ concat (lines_behind [] (commands script))

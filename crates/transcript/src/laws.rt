@@ -1,5 +1,5 @@
 ghost use Rattle.transcript.specs.Laws.{ReadingLaws};
-ghost use Rattle.transcript.specs.Lots.{ScriptsRunLots};
+ghost use Rattle.transcript.specs.Lots.{LinesOfCommands};
 
 // The laws of a reading stand.
 #[tactic(auto, using(crate::proofs::Reading::reading_laws))]
@@ -7,8 +7,8 @@ pub fn reading_laws()
     ensures { ReadingLaws }
 {}
 
-// The lot that the lines of a script speak of is what a run of lot calls leaves, so that what is promised of runs reaches the lines.
-#[tactic(auto, using(crate::proofs::Commands::scripts_run_lots))]
-pub fn scripts_run_lots()
-    ensures { ScriptsRunLots }
+// A script has one line for each of its commands, told by the lot that the calls of the commands before it leave.
+#[tactic(auto, using(crate::proofs::Commands::lines_of_commands))]
+pub fn lines_of_commands()
+    ensures { LinesOfCommands }
 {}
