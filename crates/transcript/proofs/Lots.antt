@@ -20,7 +20,7 @@ use Rattle.transcript.specs.Commands.{Asked}
 use Rattle.transcript.specs.Lots.{is_close, closes, call_asked, calls_of, lot_behind, order_line}
 
 -- a run goes on where one ends
-run_append : (c w : ℕ) (F : List ℕ → List ℕ) (at : Lot × History) (ks js : List Call) → run c w F at (ks ++ js) ≡ run c w F (run c w F at ks) js
+pub run_append : (c w : ℕ) (F : List ℕ → List ℕ) (at : Lot × History) (ks js : List Call) → run c w F at (ks ++ js) ≡ run c w F (run c w F at ks) js
 run_append c w F at [] js = refl
 run_append c w F at (k ∷ ks) js = run_append c w F ((step c w F at.0 k).0, (k, (step c w F at.0 k).1) ∷ at.1) ks js
 

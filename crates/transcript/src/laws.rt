@@ -1,5 +1,11 @@
 ghost use Rattle.transcript.specs.Laws.{ReadingLaws};
 ghost use Rattle.transcript.specs.Lots.{LinesOfCommands};
+ghost use Rattle.transcript.specs.Promised.{LinesPromised};
+
+use kinds::drill::Drill;
+use model::{lot_laws, order_law};
+use rpo_kinds::rpo128::Rpo128;
+use rpo_kinds::rpo160::Rpo160;
 
 // The laws of a reading stand.
 #[tactic(auto, using(crate::proofs::Reading::reading_laws))]
@@ -12,3 +18,15 @@ pub fn reading_laws()
 pub fn lines_of_commands()
     ensures { LinesOfCommands }
 {}
+
+// What is promised of lots reaches these lines, whichever of its three kinds a script names.
+pub fn lines_promised()
+    ensures { LinesPromised }
+{
+    lot_laws::<Drill>();
+    lot_laws::<Rpo128>();
+    lot_laws::<Rpo160>();
+    order_law::<Drill>();
+    order_law::<Rpo128>();
+    order_law::<Rpo160>();
+}

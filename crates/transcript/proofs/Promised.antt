@@ -1,0 +1,207 @@
+-- The laws of lots, said of lines.
+use Rattle.std.proofs.Common.{◌≡◌, ℕ, ◌*◌, ◌^◌, ◌≤◌, leb, Bool, true, false, cond, List, [], ◌∷◌, ◌++◌, replicate, Ok, Err, Result, sym, refl, ap, ◌∙◌, ap₂}
+use Rattle.std.proofs.lemmas.Bool.{cond_both}
+use mathlib.Core.Path.{fun_ext}
+use Rattle.std.proofs.lemmas.List.{length-replicate}
+use Rattle.kinds.specs.Answers.{Answer, granted, denied, answer, if_granted}
+use Rattle.kinds.specs.Permuting.{bad_buffer}
+use Rattle.kinds.proofs.Causes.{granted_by, good_buffer}
+use Rattle.lines.specs.Lines.{numbers_line, heading_word}
+use Rattle.lines.specs.declared.writing.Heading.{Heading}
+use Rattle.lines.specs.declared.writing.Heading.TheVariants as heading
+use Rattle.reader.specs.declared.orders.Order.{Order}
+use Rattle.reader.specs.declared.orders.Order.TheVariants as order
+use Rattle.reader.specs.declared.fault.ScriptFault.{ScriptFault}
+use Rattle.model.specs.Calls.{Call, begin, feed, feed_eight, seal, abandon, clear, root, History, no_place}
+use Rattle.model.specs.Trees.{tree_value, path_of}
+use Rattle.model.specs.Lots.{Lot, newly_made, leaf_at, answer_to, effect, step, run}
+use Rattle.model.specs.Closed as model
+use Rattle.model.specs.Closed.{closed_root_call, open_answer, open_call}
+use Rattle.model.specs.Promises as promises
+use Rattle.model.specs.Promises.{makes, NoMakings, Alike}
+use Rattle.model.specs.Laws.{LotLaws}
+use Rattle.model.proofs.Heaps.{closed_laws}
+use Rattle.rpo_kinds.specs.declared.names.KindName.{KindName}
+use Rattle.turns.specs.Answers.{numbers_told}
+use Rattle.turns.specs.Turns.{filled, asked}
+use Rattle.script.specs.Stages.{capacity, digest, mixing}
+use Rattle.transcript.specs.Commands.{Asked}
+use Rattle.transcript.specs.Lots.{call_of, is_close, closes, call_asked, calls_of, lot_behind, order_line}
+use Rattle.transcript.specs.Promised.{call_line, call_told, leaves_told, root_told, path_told, LinesTold, SameRecords, LinesAlike}
+use Rattle.transcript.proofs.Lots.{run_append}
+
+-- no command makes a lot anew
+
+none_append : (ks js : List Call) → NoMakings ks → NoMakings js → NoMakings (ks ++ js)
+none_append [] js none none' = none'
+none_append (k ∷ ks) js none none' = (none.0, none_append ks js none.1 none')
+
+order_makes_none : (w : ℕ) (o : Order) → NoMakings (call_of w o)
+order_makes_none w (order.Begin s p n) = (refl, tt)
+order_makes_none w (order.Feed s x) = (refl, tt)
+order_makes_none w (order.FeedEight s xs) = (refl, tt)
+order_makes_none w (order.Seal s) = (refl, tt)
+order_makes_none w (order.Abandon s) = (refl, tt)
+order_makes_none w (order.Clear p) = (refl, tt)
+order_makes_none w order.Root = (refl, tt)
+order_makes_none w o = tt
+
+asked_makes_none : (w : ℕ) (o : Result Order ScriptFault) → NoMakings (call_asked w o)
+asked_makes_none w (Ok o) = order_makes_none w o
+asked_makes_none w (Err f) = tt
+
+none_made : (w : ℕ) (xs : List Asked) → NoMakings (calls_of w xs)
+none_made w [] = tt
+none_made w (a ∷ xs) =
+    cond_both {A = List Call} (is_close a.0) [] (call_asked w a.0 ++ calls_of w xs) NoMakings (λ e. tt)
+    (λ e. none_append (call_asked w a.0) (calls_of w xs) (asked_makes_none w a.0) (none_made w xs))
+
+-- so the depth stays
+module _ (c w : ℕ) (F : List ℕ → List ℕ) where
+  depth_kept : (a : Answer) (l m : Lot) → m.depth ≡ l.depth → (if_granted a m l).depth ≡ l.depth
+  depth_kept granted l m e = e
+  depth_kept (denied n vs) l m e = refl
+
+  step_depth : (at : Lot × History) (k : Call) → (effect c w F at.0 k).depth ≡ at.0.depth → (run c w F at (k ∷ [])).0.depth ≡ at.0.depth
+  step_depth at k e = depth_kept (answer_to w at.0 k) at.0 (effect c w F at.0 k) e
+
+  order_depth : (at : Lot × History) (o : Order) → (run c w F at (call_of w o)).0.depth ≡ at.0.depth
+  order_depth at (order.Begin s p n) = step_depth at (begin s p n) refl
+  order_depth at (order.Feed s x) = step_depth at (feed s x) refl
+  order_depth at (order.FeedEight s xs) = step_depth at (feed_eight s xs) refl
+  order_depth at (order.Seal s) = step_depth at (seal s) refl
+  order_depth at (order.Abandon s) = step_depth at (abandon s) refl
+  order_depth at (order.Clear p) = step_depth at (clear p) refl
+  order_depth at order.Root = step_depth at (root (replicate w 0)) refl
+  order_depth at o = refl
+
+  asked_depth : (at : Lot × History) (o : Result Order ScriptFault) → (run c w F at (call_asked w o)).0.depth ≡ at.0.depth
+  asked_depth at (Ok o) = order_depth at o
+  asked_depth at (Err f) = refl
+
+  calls_depth : (xs : List Asked) (at : Lot × History) → (run c w F at (calls_of w xs)).0.depth ≡ at.0.depth
+  calls_depth [] at = refl
+  calls_depth (a ∷ xs) at =
+      cond_both {A = List Call} (is_close a.0) [] (call_asked w a.0 ++ calls_of w xs) (λ ks. (run c w F at ks).0.depth ≡ at.0.depth) (λ e. refl)
+      (λ e. ap (λ (x : Lot × History). x.0.depth) (run_append c w F at (call_asked w a.0) (calls_of w xs)) ∙ calls_depth xs (run c w F at (call_asked w a.0)) ∙ asked_depth at a.0)
+
+-- a buffer of the right length is no cause of a refusal
+fits : (w : ℕ) → answer (bad_buffer w (replicate w 0) ∷ []) ≡ granted
+fits w = granted_by (bad_buffer w (replicate w 0) ∷ []) (good_buffer w (replicate w 0) (length-replicate w 0), tt)
+
+granted_words : (h : Heading) (a : Answer) (xs ys : List ℕ) (at : ℕ) → numbers_told h (a, if_granted a xs ys) at ≡ numbers_told h (a, xs) at
+granted_words h granted xs ys at = refl
+granted_words h (denied n vs) xs ys at = refl
+
+-- the tree value of a lot
+abbrev root_of_lot : KindName → Lot → List ℕ
+root_of_lot kind l = tree_value (capacity kind) (digest kind) (mixing kind) l.depth (leaf_at (digest kind) l.leaves)
+
+-- root's line, by the lot
+root_by_lot : (kind : KindName) (depth : ℕ) (xs : List Asked) (at : ℕ) →
+    order_line kind depth xs order.Root at ≡ numbers_line (heading_word heading.Root) (root_of_lot kind (lot_behind kind depth xs))
+unfolding filled asked
+root_by_lot kind depth xs at = by_close (closes xs) refl
+  where
+    granted_root : (ns : List ℕ) → ns ≡ if_granted (answer (bad_buffer (digest kind) (replicate (digest kind) 0) ∷ [])) (root_of_lot kind (lot_behind kind depth xs)) (replicate (digest kind) 0)
+        → numbers_told heading.Root (answer (bad_buffer (digest kind) (replicate (digest kind) 0) ∷ []), ns) at ≡ numbers_line (heading_word heading.Root) (root_of_lot kind (lot_behind kind depth xs))
+    granted_root ns e = rw (e, fits (digest kind)) refl
+
+    by_close : (t : Bool) → closes xs ≡ t → order_line kind depth xs order.Root at ≡ numbers_line (heading_word heading.Root) (root_of_lot kind (lot_behind kind depth xs))
+    by_close true e = rw e (granted_root _ ((closed_laws (capacity kind) (digest kind) (mixing kind)).root_written (lot_behind kind depth xs) (replicate (digest kind) 0)))
+    by_close false e = rw e (granted_root _ refl)
+
+-- open's answer, where its buffer fits
+open_answered : (w depth place : ℕ) → open_answer w depth place (replicate (depth * w) 0) ≡ answer (no_place depth place ∷ [])
+open_answered w depth place = ap (λ (a : Answer). cond (leb (2 ^ depth) place) (denied 3 []) a) (fits (depth * w))
+
+module _ (kind : KindName) (depth : ℕ) (small : depth ≤ 8) (laws : LotLaws (capacity kind) (digest kind) (mixing kind)) (xs : List Asked) where
+  deep : (lot_behind kind depth xs).depth ≡ depth
+  deep = calls_depth (capacity kind) (digest kind) (mixing kind) xs (newly_made (digest kind) depth, [])
+
+  leaves_kept : leaf_at (digest kind) (lot_behind kind depth xs).leaves ≡ leaves_told kind depth xs
+  leaves_kept = fun_ext (laws.keeps_last_records depth (calls_of (digest kind) xs) small).leaf_kept
+
+  root_line : (at : ℕ) → order_line kind depth xs order.Root at ≡ numbers_line (heading_word heading.Root) (root_told kind depth xs)
+  root_line at =
+      root_by_lot kind depth xs at
+      ∙ ap (λ ns. numbers_line (heading_word heading.Root) ns) (ap₂ (λ (d : ℕ) (ls : ℕ → List ℕ). tree_value (capacity kind) (digest kind) (mixing kind) d ls) deep leaves_kept)
+
+  open_line : (place at : ℕ) → closes xs ≡ true → order_line kind depth xs (order.Open place) at ≡ numbers_told heading.Path (path_told kind depth xs place) at
+  unfolding asked
+  open_line place at e =
+      let c = capacity kind in
+      let w = digest kind in
+      let F = mixing kind in
+      let l = lot_behind kind depth xs in
+      let room = replicate (l.depth * w) 0 in
+      let a = open_answer w l.depth place room in
+      let path = path_of c w F l.depth (leaf_at w l.leaves) place in
+      rw e
+      (ap (λ ns. numbers_told heading.Path (a, ns) at) ((closed_laws c w F).path_written l place room)
+      ∙ granted_words heading.Path a path room at
+      ∙ ap (λ (b : Answer). numbers_told heading.Path (b, path) at) (open_answered w l.depth place)
+      ∙ ap₂ (λ (d : ℕ) (ls : ℕ → List ℕ). numbers_told heading.Path (answer (no_place d place ∷ []), path_of c w F d ls place) at) deep leaves_kept)
+
+  -- the answer to a call, and its words
+  told_of : (k : Call) → ◌≡◌ {A = Answer × List ℕ} ((step (capacity kind) (digest kind) (mixing kind) (lot_behind kind depth xs) k).1, (step (capacity kind) (digest kind) (mixing kind) (lot_behind kind depth xs) k).2) (call_told kind depth xs k)
+  told_of k =
+      let told = laws.answers_told depth (calls_of (digest kind) xs) small k in
+      ap₂ (λ (a : Answer) (ns : List ℕ). (a, ns)) told.0 told.1
+
+  -- the line of the answer to a call that is asked for
+  line_of : (o : Order) (at : ℕ) (j k : Call) → j ∷ [] ≡ k ∷ [] →
+      call_line o ((step (capacity kind) (digest kind) (mixing kind) (lot_behind kind depth xs) j).1, (step (capacity kind) (digest kind) (mixing kind) (lot_behind kind depth xs) j).2) at ≡ call_line o (call_told kind depth xs k) at
+  line_of o at j k e =
+      let is : j ≡ k = cc e in
+      ap (λ (x : Answer × List ℕ). call_line o x at) (told_of j ∙ ap (call_told kind depth xs) is)
+
+  call_line_told : (o : Order) (k : Call) (at : ℕ) → call_of (digest kind) o ≡ k ∷ []
+      → (filled (capacity kind) (digest kind) (mixing kind) (lot_behind kind depth xs) o at).1 ≡ call_line o (call_told kind depth xs k) at
+  unfolding filled
+  call_line_told (order.Begin s p n) k at e = line_of (order.Begin s p n) at (begin s p n) k e
+  call_line_told (order.Feed s x) k at e = line_of (order.Feed s x) at (feed s x) k e
+  call_line_told (order.FeedEight s ws) k at e = line_of (order.FeedEight s ws) at (feed_eight s ws) k e
+  call_line_told (order.Seal s) k at e = line_of (order.Seal s) at (seal s) k e
+  call_line_told (order.Abandon s) k at e = line_of (order.Abandon s) at (abandon s) k e
+  call_line_told (order.Clear p) k at e = line_of (order.Clear p) at (clear p) k e
+  call_line_told order.Root k at e = line_of order.Root at (root (replicate (digest kind) 0)) k e
+  call_line_told o k at e = absurd cc
+
+  call_lines : (o : Order) (k : Call) (at : ℕ) → closes xs ≡ false → call_of (digest kind) o ≡ k ∷ [] → order_line kind depth xs o at ≡ call_line o (call_told kind depth xs k) at
+  call_lines order.Close k at e asks = absurd cc
+  call_lines o k at e asks = rw e (call_line_told o k at asks)
+
+  pub lines_told : LinesTold kind depth xs
+  lines_told = record { call_lines = call_lines; root_line = root_line; open_line = open_line }
+
+module _ (kind : KindName) (depth : ℕ) (small : depth ≤ 8) (order_law : promises.Order (capacity kind) (digest kind) (mixing kind)) (one other : List Asked) (same : SameRecords kind depth one other) where
+  both_alike : Alike (capacity kind) (digest kind) (mixing kind) (lot_behind kind depth one) (lot_behind kind depth other)
+  both_alike = order_law depth (calls_of (digest kind) one) (calls_of (digest kind) other) small (none_made (digest kind) one) (none_made (digest kind) other) same
+
+  same_value : root_of_lot kind (lot_behind kind depth one) ≡ root_of_lot kind (lot_behind kind depth other)
+  same_value =
+      let l = lot_behind kind depth one in
+      let m = lot_behind kind depth other in
+      let room = replicate (digest kind) 0 in
+      let left : if_granted (answer (bad_buffer (digest kind) room ∷ [])) (root_of_lot kind l) room ≡ if_granted (answer (bad_buffer (digest kind) room ∷ [])) (root_of_lot kind m) room = both_alike.roots_left room in
+      rw (fits (digest kind)) at left
+
+  same_path : (place at : ℕ) → closes one ≡ true → closes other ≡ true → order_line kind depth one (order.Open place) at ≡ order_line kind depth other (order.Open place) at
+  unfolding asked
+  same_path place at e e' =
+      let w = digest kind in
+      let F = mixing kind in
+      let l = lot_behind kind depth one in
+      let m = lot_behind kind depth other in
+      let deep = calls_depth (capacity kind) w F one (newly_made w depth, []) in
+      let deep' = calls_depth (capacity kind) w F other (newly_made w depth, []) in
+      rw (e, e')
+      (ap (λ (x : Answer × List ℕ). numbers_told heading.Path x at) (both_alike.openings place (replicate (l.depth * w) 0))
+      ∙ ap (λ (d : ℕ). numbers_told heading.Path (open_call w (model.closed (capacity kind) w F m) place (replicate (d * w) 0)) at) (deep ∙ sym deep'))
+
+  pub lines_alike : LinesAlike kind depth one other
+  lines_alike = record {
+    same_root = λ at. root_by_lot kind depth one at ∙ ap (λ ns. numbers_line (heading_word heading.Root) ns) same_value ∙ sym (root_by_lot kind depth other at);
+    same_path = same_path;
+  }
