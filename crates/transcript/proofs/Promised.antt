@@ -1,5 +1,5 @@
 -- The laws of lots, said of lines.
-use Rattle.std.proofs.Common.{◌≡◌, ℕ, ◌*◌, ◌^◌, ◌≤◌, leb, Bool, true, false, cond, List, [], ◌∷◌, ◌++◌, replicate, Ok, Err, Result, sym, refl, ap, ◌∙◌, ap₂}
+use Rattle.std.proofs.Common.{◌≡◌, ℕ, ◌*◌, ◌^◌, ◌<◌, ◌≤◌, leb, Bool, true, false, cond, List, [], ◌∷◌, ◌++◌, replicate, Ok, Err, Result, sym, refl, ap, ◌∙◌, ap₂}
 use Rattle.std.proofs.lemmas.Bool.{cond_both}
 use mathlib.Core.Path.{fun_ext}
 use Rattle.std.proofs.lemmas.List.{length-replicate}
@@ -13,21 +13,23 @@ use Rattle.reader.specs.declared.orders.Order.{Order}
 use Rattle.reader.specs.declared.orders.Order.TheVariants as order
 use Rattle.reader.specs.declared.fault.ScriptFault.{ScriptFault}
 use Rattle.model.specs.Calls.{Call, begin, feed, feed_eight, seal, abandon, clear, root, History, no_place}
+use Rattle.model.specs.Histories.{last_record}
 use Rattle.model.specs.Trees.{tree_value, path_of}
 use Rattle.model.specs.Lots.{Lot, newly_made, leaf_at, answer_to, effect, step, run}
 use Rattle.model.specs.Closed as model
 use Rattle.model.specs.Closed.{closed_root_call, open_answer, open_call}
-use Rattle.model.specs.Promises as promises
-use Rattle.model.specs.Promises.{makes, NoMakings, Alike}
+use Rattle.model.specs.Promises.{NoMakings, Alike}
 use Rattle.model.specs.Laws.{LotLaws}
 use Rattle.model.proofs.Heaps.{closed_laws}
+use Rattle.openings.specs.Checks.{check_call}
+use Rattle.promises.specs.Promises.{Promises}
 use Rattle.rpo_kinds.specs.declared.names.KindName.{KindName}
 use Rattle.turns.specs.Answers.{numbers_told}
 use Rattle.turns.specs.Turns.{filled, asked}
 use Rattle.script.specs.Stages.{capacity, digest, mixing}
 use Rattle.transcript.specs.Commands.{Asked}
 use Rattle.transcript.specs.Lots.{call_of, is_close, closes, call_asked, calls_of, lot_behind, order_line}
-use Rattle.transcript.specs.Promised.{call_line, call_told, leaves_told, root_told, path_told, LinesTold, SameRecords, LinesAlike}
+use Rattle.transcript.specs.Promised.{call_line, history_behind, call_told, leaves_told, root_told, path_told, LinesTold, SameRecords, LinesAlike}
 use Rattle.transcript.proofs.Lots.{run_append}
 
 -- no command makes a lot anew
@@ -115,17 +117,15 @@ root_by_lot kind depth xs at = by_close (closes xs) refl
 open_answered : (w depth place : ℕ) → open_answer w depth place (replicate (depth * w) 0) ≡ answer (no_place depth place ∷ [])
 open_answered w depth place = ap (λ (a : Answer). cond (leb (2 ^ depth) place) (denied 3 []) a) (fits (depth * w))
 
-module _ (kind : KindName) (depth : ℕ) (small : depth ≤ 8) (laws : LotLaws (capacity kind) (digest kind) (mixing kind)) (xs : List Asked) where
+module _ (kind : KindName) (depth : ℕ) (small : depth ≤ 8) (laws : LotLaws (capacity kind) (digest kind) (mixing kind)) (promised : Promises (capacity kind) (digest kind) (mixing kind)) (xs : List Asked) where
   deep : (lot_behind kind depth xs).depth ≡ depth
   deep = calls_depth (capacity kind) (digest kind) (mixing kind) xs (newly_made (digest kind) depth, [])
 
   leaves_kept : leaf_at (digest kind) (lot_behind kind depth xs).leaves ≡ leaves_told kind depth xs
   leaves_kept = fun_ext (laws.keeps_last_records depth (calls_of (digest kind) xs) small).leaf_kept
 
-  root_line : (at : ℕ) → order_line kind depth xs order.Root at ≡ numbers_line (heading_word heading.Root) (root_told kind depth xs)
-  root_line at =
-      root_by_lot kind depth xs at
-      ∙ ap (λ ns. numbers_line (heading_word heading.Root) ns) (ap₂ (λ (d : ℕ) (ls : ℕ → List ℕ). tree_value (capacity kind) (digest kind) (mixing kind) d ls) deep leaves_kept)
+  root_kept : root_of_lot kind (lot_behind kind depth xs) ≡ root_told kind depth xs
+  root_kept = ap₂ (λ (d : ℕ) (ls : ℕ → List ℕ). tree_value (capacity kind) (digest kind) (mixing kind) d ls) deep leaves_kept
 
   open_line : (place at : ℕ) → closes xs ≡ true → order_line kind depth xs (order.Open place) at ≡ numbers_told heading.Path (path_told kind depth xs place) at
   unfolding asked
@@ -142,6 +142,28 @@ module _ (kind : KindName) (depth : ℕ) (small : depth ≤ 8) (laws : LotLaws (
       ∙ granted_words heading.Path a path room at
       ∙ ap (λ (b : Answer). numbers_told heading.Path (b, path) at) (open_answered w l.depth place)
       ∙ ap₂ (λ (d : ℕ) (ls : ℕ → List ℕ). numbers_told heading.Path (answer (no_place d place ∷ []), path_of c w F d ls place) at) deep leaves_kept)
+
+  accepted : (place : ℕ) → place < 2 ^ depth →
+      ◌≡◌ {A = Answer × Bool} (check_call (capacity kind) (digest kind) (mixing kind) (root_told kind depth xs) depth place (last_record (history_behind kind depth xs) place) (path_told kind depth xs place).1) (granted, true)
+  accepted place low =
+      let c = capacity kind in
+      let w = digest kind in
+      let F = mixing kind in
+      let l = lot_behind kind depth xs in
+      let top = replicate w 0 in
+      let room = replicate (l.depth * w) 0 in
+      let leaves = leaf_at w l.leaves in
+      let claim = last_record (history_behind kind depth xs) place in
+      let opens = promised.opened depth (calls_of w xs) small place room top (rw deep low) (length-replicate (l.depth * w) 0) (length-replicate w 0) in
+      let root : (closed_root_call w (model.closed c w F l) top).1 ≡ root_told kind depth xs =
+      (closed_laws c w F).root_written l top ∙ ap (λ (a : Answer). if_granted a (root_of_lot kind l) top) opens.root_granted ∙ root_kept in
+      let path : (open_call w (model.closed c w F l) place room).1 ≡ (path_told kind depth xs place).1 =
+      (closed_laws c w F).path_written l place room
+      ∙ ap (λ (a : Answer). if_granted a (path_of c w F l.depth leaves place) room) opens.open_granted
+      ∙ ap₂ (λ (d : ℕ) (ls : ℕ → List ℕ). path_of c w F d ls place) deep leaves_kept in
+      sym (ap (λ (d : ℕ). check_call c w F (root_told kind depth xs) d place claim (path_told kind depth xs place).1) deep)
+      ∙ sym (ap₂ (λ (x y : List ℕ). check_call c w F x l.depth place claim y) root path)
+      ∙ opens.accepted
 
   -- the answer to a call, and its words
   told_of : (k : Call) → ◌≡◌ {A = Answer × List ℕ} ((step (capacity kind) (digest kind) (mixing kind) (lot_behind kind depth xs) k).1, (step (capacity kind) (digest kind) (mixing kind) (lot_behind kind depth xs) k).2) (call_told kind depth xs k)
@@ -173,11 +195,16 @@ module _ (kind : KindName) (depth : ℕ) (small : depth ≤ 8) (laws : LotLaws (
   call_lines o k at e asks = rw e (call_line_told o k at asks)
 
   pub lines_told : LinesTold kind depth xs
-  lines_told = record { call_lines = call_lines; root_line = root_line; open_line = open_line }
+  lines_told = record {
+    call_lines = call_lines;
+    root_line = λ at. root_by_lot kind depth xs at ∙ ap (λ ns. numbers_line (heading_word heading.Root) ns) root_kept;
+    open_line = open_line;
+    accepted = accepted;
+  }
 
-module _ (kind : KindName) (depth : ℕ) (small : depth ≤ 8) (order_law : promises.Order (capacity kind) (digest kind) (mixing kind)) (one other : List Asked) (same : SameRecords kind depth one other) where
+module _ (kind : KindName) (depth : ℕ) (small : depth ≤ 8) (promised : Promises (capacity kind) (digest kind) (mixing kind)) (one other : List Asked) (same : SameRecords kind depth one other) where
   both_alike : Alike (capacity kind) (digest kind) (mixing kind) (lot_behind kind depth one) (lot_behind kind depth other)
-  both_alike = order_law depth (calls_of (digest kind) one) (calls_of (digest kind) other) small (none_made (digest kind) one) (none_made (digest kind) other) same
+  both_alike = promised.order depth (calls_of (digest kind) one) (calls_of (digest kind) other) small (none_made (digest kind) one) (none_made (digest kind) other) same
 
   same_value : root_of_lot kind (lot_behind kind depth one) ≡ root_of_lot kind (lot_behind kind depth other)
   same_value =

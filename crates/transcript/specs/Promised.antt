@@ -1,6 +1,6 @@
 -- What is promised of lots, said of lines. A start that is granted has a depth of at most 8.
-use Rattle.std.specs.Prelude.{◌≡◌, ℕ, ◌^◌, ◌<◌, ◌≤◌, true, false, List, [], ◌∷◌}
-use Rattle.kinds.specs.Answers.{Answer, answer}
+use Rattle.std.specs.Prelude.{◌≡◌, ℕ, ◌^◌, ◌<◌, ◌≤◌, Bool, true, false, List, [], ◌∷◌}
+use Rattle.kinds.specs.Answers.{Answer, granted, answer}
 use Rattle.lines.specs.Lines.{ok_line, numbers_line, heading_word}
 use Rattle.lines.specs.declared.writing.Heading.TheVariants as heading
 use Rattle.reader.specs.declared.orders.Order.{Order}
@@ -10,6 +10,7 @@ use Rattle.model.specs.Histories.{last_record}
 use Rattle.model.specs.Trees.{leaf, tree_value, path_of}
 use Rattle.model.specs.Lots.{history_of}
 use Rattle.model.specs.Bench.{bench_of, bench_answer, bench_buffer}
+use Rattle.openings.specs.Checks.{check_call}
 use Rattle.rpo_kinds.specs.declared.names.KindName.{KindName}
 use Rattle.turns.specs.Answers.{answer_line, numbers_told}
 use Rattle.script.specs.Stages.{capacity, digest, mixing}
@@ -51,6 +52,9 @@ module _ (kind : KindName) (depth : ℕ) where
     pub root_line : (at : ℕ) → order_line kind depth before order.Root at ≡ numbers_line (heading_word heading.Root) (root_told before)
     -- behind it, open prints the path of a place in their tree, unless there is no such place
     pub open_line : (place at : ℕ) → closes before ≡ true → order_line kind depth before (order.Open place) at ≡ numbers_told heading.Path (path_told before place) at
+    -- and under that root the check accepts that path, with the last record of the place, or nothing, as the claim
+    pub accepted : (place : ℕ) → place < 2 ^ depth →
+        ◌≡◌ {A = Answer × Bool} (check_call (capacity kind) (digest kind) (mixing kind) (root_told before) depth place (last_record (history_behind before) place) (path_told before place).1) (granted, true)
 
   abbrev pub SameRecords : List Asked → List Asked → Type 0
   SameRecords one other = (place : ℕ) → place < 2 ^ depth → last_record (history_behind one) place ≡ last_record (history_behind other) place

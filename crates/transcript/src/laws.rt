@@ -3,7 +3,8 @@ ghost use Rattle.transcript.specs.Lots.{LinesOfCommands};
 ghost use Rattle.transcript.specs.Promised.{LinesPromised};
 
 use kinds::drill::Drill;
-use model::{lot_laws, order_law};
+use model::lot_laws;
+use promises::promises;
 use rpo_kinds::rpo128::Rpo128;
 use rpo_kinds::rpo160::Rpo160;
 
@@ -19,14 +20,14 @@ pub fn lines_of_commands()
     ensures { LinesOfCommands }
 {}
 
-// What is promised of lots reaches these lines, whichever of its three kinds a script names.
+// What is promised of lots reaches these lines, whichever of the three kinds a script names.
 pub fn lines_promised()
     ensures { LinesPromised }
 {
     lot_laws::<Drill>();
     lot_laws::<Rpo128>();
     lot_laws::<Rpo160>();
-    order_law::<Drill>();
-    order_law::<Rpo128>();
-    order_law::<Rpo160>();
+    promises::<Drill>();
+    promises::<Rpo128>();
+    promises::<Rpo160>();
 }

@@ -1,7 +1,7 @@
 use Rattle.rpo_kinds.specs.declared.names.KindName.{KindName}
 use Rattle.rpo_kinds.specs.declared.names.KindName.TheVariants as kind
 use Rattle.model.specs.Laws.{LotLaws}
-use Rattle.model.specs.Promises.{Order}
+use Rattle.promises.specs.Promises.{Promises}
 use Rattle.script.specs.Stages.{capacity, digest, mixing}
 use Rattle.transcript.proofs.Promised.{lines_told, lines_alike}
 use Rattle.transcript.proofs.laws.lines_promised.Goals as goal
@@ -10,9 +10,9 @@ pub returns : goal.returns
 returns c =
     let lots : (k : KindName) → LotLaws (capacity k) (digest k) (mixing k) =
     λ k. elim k as (λ n. LotLaws (capacity n) (digest n) (mixing n)) [ kind.Drill ↦ c.lot_laws.ensures | kind.Rpo128 ↦ c.lot_laws-2.ensures | kind.Rpo160 ↦ c.lot_laws-3.ensures ] in
-    let orders : (k : KindName) → Order (capacity k) (digest k) (mixing k) =
-    λ k. elim k as (λ n. Order (capacity n) (digest n) (mixing n)) [ kind.Drill ↦ c.order_law.ensures | kind.Rpo128 ↦ c.order_law-2.ensures | kind.Rpo160 ↦ c.order_law-3.ensures ] in
+    let promised : (k : KindName) → Promises (capacity k) (digest k) (mixing k) =
+    λ k. elim k as (λ n. Promises (capacity n) (digest n) (mixing n)) [ kind.Drill ↦ c.promises.ensures | kind.Rpo128 ↦ c.promises-2.ensures | kind.Rpo160 ↦ c.promises-3.ensures ] in
     record {
-      told = λ k depth before small. lines_told k depth small (lots k) before;
-      alike = λ k depth one other small same. lines_alike k depth small (orders k) one other same;
+      told = λ k depth before small. lines_told k depth small (lots k) (promised k) before;
+      alike = λ k depth one other small same. lines_alike k depth small (promised k) one other same;
     }
