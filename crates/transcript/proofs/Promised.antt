@@ -1,8 +1,10 @@
 -- The laws of lots, said of lines.
-use Rattle.std.proofs.Common.{◌≡◌, ℕ, ◌*◌, ◌^◌, ◌<◌, ◌≤◌, leb, Bool, true, false, cond, List, [], ◌∷◌, ◌++◌, replicate, Ok, Err, Result, sym, refl, ap, ◌∙◌, ap₂}
-use Rattle.std.proofs.lemmas.Bool.{cond_both}
+use Rattle.std.proofs.Common.{◌≡◌, ℕ, ◌*◌, ◌^◌, ◌<◌, ◌≤◌, leb, ltb, Bool, true, false, cond, List, [], ◌∷◌, ◌++◌, replicate, Some, None, Ok, Err, Option, Result, IfOk, sym, refl, subst, ap, ◌∙◌, ap₂}
+use Rattle.std.proofs.lemmas.Bool.{cond_both, ltb-false}
 use mathlib.Core.Path.{fun_ext}
 use Rattle.std.proofs.lemmas.List.{length-replicate}
+use Rattle.kinds.specs.declared.denial.Denial.{Denial}
+use Rattle.kinds.specs.declared.denial.Denial.TheVariants as denial
 use Rattle.kinds.specs.Answers.{Answer, granted, denied, answer, if_granted}
 use Rattle.kinds.specs.Permuting.{bad_buffer}
 use Rattle.kinds.proofs.Causes.{granted_by, good_buffer}
@@ -23,14 +25,37 @@ use Rattle.model.specs.Laws.{LotLaws}
 use Rattle.model.proofs.Heaps.{closed_laws}
 use Rattle.openings.specs.Checks.{check_call}
 use Rattle.promises.specs.Promises.{Promises}
+use Rattle.rpo_kinds.specs.Names.{name_of}
 use Rattle.rpo_kinds.specs.declared.names.KindName.{KindName}
 use Rattle.turns.specs.Answers.{numbers_told}
 use Rattle.turns.specs.Turns.{filled, asked}
-use Rattle.script.specs.Stages.{capacity, digest, mixing}
+use Rattle.script.specs.Stages.{capacity, digest, mixing, new_lot, named_lot, started_as}
 use Rattle.transcript.specs.Commands.{Asked}
-use Rattle.transcript.specs.Lots.{call_of, is_close, closes, call_asked, calls_of, lot_behind, order_line}
+use Rattle.transcript.specs.Lots.{call_of, is_close, closes, call_asked, calls_of, lot_behind, order_line, started_by}
 use Rattle.transcript.specs.Promised.{call_line, history_behind, call_told, leaves_told, root_told, path_told, LinesTold, SameRecords, LinesAlike}
 use Rattle.transcript.proofs.Lots.{run_append}
+
+-- a start that is granted has a depth of at most 8
+
+abbrev Shallow : Result (KindName × Lot) ScriptFault → Type 0
+Shallow r = IfOk r (λ l. l.1.depth ≤ 8)
+
+named_shallow : (kind : KindName) (d : ℕ) → Shallow (named_lot kind (new_lot (digest kind) d))
+named_shallow kind d =
+    cond_both {A = Result Lot Denial} (ltb 8 d) (Err denial.DepthTooLarge) (Ok (newly_made (digest kind) d)) (λ r. Shallow (named_lot kind r)) (λ e. tt)
+    (λ e. ltb-false 8 d e)
+
+started_shallow : (name : Option KindName) (d at : ℕ) → Shallow (started_as name d at)
+started_shallow None d at = tt
+started_shallow (Some kind) d at = named_shallow kind d
+
+first_shallow : (first : Asked) → Shallow (started_by first)
+first_shallow (Ok (order.Start k d), at) = started_shallow (name_of k) d at
+first_shallow (Ok o, at) = tt
+first_shallow (Err f, at) = tt
+
+pub shallow_start : (first : Asked) (l : KindName × Lot) → started_by first ≡ Ok l → l.1.depth ≤ 8
+shallow_start first l e = subst Shallow e (first_shallow first)
 
 -- no command makes a lot anew
 

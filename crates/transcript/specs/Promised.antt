@@ -1,5 +1,5 @@
--- What is promised of lots, said of lines. A start that is granted has a depth of at most 8.
-use Rattle.std.specs.Prelude.{◌≡◌, ℕ, ◌^◌, ◌<◌, ◌≤◌, Bool, true, false, List, [], ◌∷◌}
+-- What is promised of lots, said of lines.
+use Rattle.std.specs.Prelude.{◌≡◌, ℕ, ◌^◌, ◌<◌, Bool, true, false, List, [], ◌∷◌, Ok}
 use Rattle.kinds.specs.Answers.{Answer, granted, answer}
 use Rattle.lines.specs.Lines.{ok_line, numbers_line, heading_word}
 use Rattle.lines.specs.declared.writing.Heading.TheVariants as heading
@@ -8,14 +8,14 @@ use Rattle.reader.specs.declared.orders.Order.TheVariants as order
 use Rattle.model.specs.Calls.{Call, History, no_place}
 use Rattle.model.specs.Histories.{last_record}
 use Rattle.model.specs.Trees.{leaf, tree_value, path_of}
-use Rattle.model.specs.Lots.{history_of}
+use Rattle.model.specs.Lots.{Lot, history_of}
 use Rattle.model.specs.Bench.{bench_of, bench_answer, bench_buffer}
 use Rattle.openings.specs.Checks.{check_call}
 use Rattle.rpo_kinds.specs.declared.names.KindName.{KindName}
 use Rattle.turns.specs.Answers.{answer_line, numbers_told}
 use Rattle.script.specs.Stages.{capacity, digest, mixing}
 use Rattle.transcript.specs.Commands.{Asked}
-use Rattle.transcript.specs.Lots.{call_of, closes, calls_of, order_line}
+use Rattle.transcript.specs.Lots.{call_of, closes, calls_of, order_line, started_by}
 
 -- the line of a call's answer, and of what it leaves in its buffer
 abbrev pub call_line : Order → Answer × List ℕ → ℕ → List ℕ
@@ -64,6 +64,7 @@ module _ (kind : KindName) (depth : ℕ) where
     pub same_root : (at : ℕ) → order_line kind depth one order.Root at ≡ order_line kind depth other order.Root at
     pub same_path : (place at : ℕ) → closes one ≡ true → closes other ≡ true → order_line kind depth one (order.Open place) at ≡ order_line kind depth other (order.Open place) at
 
+-- behind any start that is granted, whatever the commands
 pub record LinesPromised : Type 0 where
-  pub told : (kind : KindName) (depth : ℕ) (before : List Asked) → depth ≤ 8 → LinesTold kind depth before
-  pub alike : (kind : KindName) (depth : ℕ) (one other : List Asked) → depth ≤ 8 → SameRecords kind depth one other → LinesAlike kind depth one other
+  pub told : (start : Asked) (lot : KindName × Lot) (before : List Asked) → started_by start ≡ Ok lot → LinesTold lot.0 lot.1.depth before
+  pub alike : (start : Asked) (lot : KindName × Lot) (one other : List Asked) → started_by start ≡ Ok lot → SameRecords lot.0 lot.1.depth one other → LinesAlike lot.0 lot.1.depth one other
