@@ -5,9 +5,12 @@ use console::scripts::print_lines;
 use script::runner::Runner;
 use std::io;
 use std::io::Read;
+use transcript::laws::{lines_of_commands, lines_promised};
 
-// One byte above the limit tells that a script is too long.
+// One byte above the limit tells that a script is too long. What a reader of the lines relies on is the contracts of the two laws.
 fn main(rt: HostRuntime) -> io::Result<()> {
+    lines_of_commands();
+    lines_promised();
     let mut script = Vec::new(rt.alloc());
     rt.stdin().take(65537).read_to_end(&mut script)?;
     match Runner::new(rt.alloc(), &script) {
