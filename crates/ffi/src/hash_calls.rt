@@ -1,7 +1,8 @@
-// The two hashes over any kind. Whoever calls these derives the round constants anew, which a long record or a chain of
-// pairs hides.
-ghost use Rattle.std.specs.Prelude.{◌≡◌};
+// The two hashes over any kind, and its mixing with the reverse. Whoever calls these derives the round constants anew,
+// which a long record or a chain of pairs hides.
+ghost use Rattle.std.specs.Prelude.{◌≡◌, ◌+◌, ◌*◌};
 ghost use Rattle.kinds.specs.Denials.{told};
+ghost use Rattle.kinds.specs.Permuting.{permute_call};
 ghost use Rattle.sponge.specs.Calls.{digest_call, pair_call};
 ghost use Rattle.ffi.specs.Codes.{coded};
 ghost use Rattle.ffi.specs.Chains.{chain_call};
@@ -9,6 +10,8 @@ ghost use Rattle.ffi.specs.Chains.{chain_call};
 use crate::code::code;
 use kinds::denial::Denial;
 use kinds::kind::Kind;
+use kinds::permuting::permute;
+use rpo_kinds::reversing::{Reversible, reverse};
 use sponge::digest::digest;
 use sponge::pair::two_to_one;
 
@@ -42,4 +45,16 @@ pub fn pair_chain_code<K: Kind>(kind: &K, n: u64, a: &mut [u64], b: &[u64], out:
     ensures { (result, (a.new, out.new)) ≡ coded (chain_call K.CAPACITY K.DIGEST K.mapping n a.old b.now out.old) }
 {
     code(chain(kind, n, a, b, out))
+}
+
+pub fn permute_code<K: Kind>(kind: &K, state: &mut [u64]) -> u8
+    ensures { (result, state.new) ≡ coded (permute_call (K.CAPACITY + 2 * K.DIGEST) K.mapping state.old) }
+{
+    code(permute(kind, state))
+}
+
+pub fn reverse_code<K: Reversible>(kind: &K, state: &mut [u64]) -> u8
+    ensures { (result, state.new) ≡ coded (permute_call K.STATE K.back state.old) }
+{
+    code(reverse(kind, state))
 }

@@ -1,6 +1,8 @@
 // What C and Rust link: the calls of `ffi` as a static library, each under the clauses that it has there.
 #![tactic(auto)]
 
+pub mod drill_calls;
 pub mod field_calls;
 pub mod hash_calls;
 pub mod mix_calls;
+pub mod state_calls;
