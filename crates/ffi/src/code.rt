@@ -1,6 +1,6 @@
 ghost use Rattle.std.specs.Prelude.{◌≡◌};
-ghost use Rattle.kinds.specs.Denials.{told};
-ghost use Rattle.ffi.specs.Codes.{code_of};
+ghost use Rattle.kinds.specs.Denials.{told, number_of, values_of};
+ghost use Rattle.ffi.specs.Codes.{code_of, first_value};
 
 use kinds::denial::Denial;
 
@@ -11,4 +11,15 @@ pub fn code(answer: Result<(), Denial>) -> u8
         Ok(()) => 0,
         Err(why) => why.number(),
     }
+}
+
+// The number of a denial; the index of a word goes to `index`, where the denial speaks of one.
+pub(crate) fn tell(why: Denial, index: &mut usize) -> u8
+    ensures number { result ≡ number_of why }
+    ensures index { index.new ≡ first_value (values_of why) index.old }
+{
+    if let Some(i) = why.index() {
+        *index = i;
+    }
+    why.number()
 }

@@ -5,3 +5,4 @@
 mod code;
 pub mod field_calls;
 pub mod hash_calls;
+pub mod opening_calls;
