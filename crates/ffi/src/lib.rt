@@ -6,3 +6,4 @@ mod code;
 pub mod field_calls;
 pub mod hash_calls;
 pub mod opening_calls;
+pub mod script_calls;

@@ -7,4 +7,5 @@ pub mod field_calls;
 pub mod find_calls;
 pub mod hash_calls;
 pub mod mix_calls;
+pub mod script_calls;
 pub mod state_calls;
