@@ -1,12 +1,12 @@
 -- The check of an opening and the finder as C has them: claims with a flag, answers by number.
-use Rattle.std.specs.Prelude.{◌≡◌, ℕ, Bool, true, cond, List, Some, None, Option, ◌==◌}
+use Rattle.std.specs.Prelude.{◌≡◌, ℕ, Bool, true, cond, List, Some, None, Option}
 use Rattle.kinds.specs.Answers.{Answer, granted, denied}
 use Rattle.finder.specs.Findings.{Shown, pairs, records, zero_record, nothing}
 use Rattle.ffi.specs.Codes.{code_of, index_after}
 
--- with flag 0 nothing is claimed, whatever the words; with any other the words are the record
-abbrev pub claim_from : ℕ → List ℕ → Option (List ℕ)
-claim_from flag words = cond (flag == 0) None (Some words)
+-- the words are the record that is claimed where the flag says so; else nothing is claimed, whatever the words
+abbrev pub claim_from : Bool → List ℕ → Option (List ℕ)
+claim_from has_record words = cond has_record (Some words) None
 
 -- 0 where an opening is accepted; 200 where it is not denied and comes to another root; or the number of the refusal
 abbrev pub verdict_code : Answer → Bool → ℕ

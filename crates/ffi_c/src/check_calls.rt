@@ -1,5 +1,5 @@
-// The check of an opening, for each kind. With `has_record` 0 nothing is claimed; 0 and nothing else says that an opening
-// is accepted.
+// The check of an opening, for each kind. Where `has_record` is false nothing is claimed; 0 and nothing else says that an
+// opening is accepted.
 ghost use Rattle.std.specs.Prelude.{◌≡◌};
 ghost use Rattle.kinds.specs.Kinds.{drill};
 ghost use Rattle.rpo_kinds.specs.Mappings.{rpo_128, rpo_160};
@@ -14,9 +14,9 @@ use rpo_kinds::rpo160::Rpo160;
 #[unsafe(no_mangle)]
 pub extern "C" fn drill_check(
     root: &[u64],
-    depth: u8,
-    place: u16,
-    has_record: u8,
+    depth: usize,
+    place: usize,
+    has_record: bool,
     words: &[u64],
     path: &[u64],
     index: &mut usize,
@@ -31,9 +31,9 @@ pub extern "C" fn drill_check(
 #[unsafe(no_mangle)]
 pub extern "C" fn rpo128_check(
     root: &[u64],
-    depth: u8,
-    place: u16,
-    has_record: u8,
+    depth: usize,
+    place: usize,
+    has_record: bool,
     words: &[u64],
     path: &[u64],
     index: &mut usize,
@@ -48,9 +48,9 @@ pub extern "C" fn rpo128_check(
 #[unsafe(no_mangle)]
 pub extern "C" fn rpo160_check(
     root: &[u64],
-    depth: u8,
-    place: u16,
-    has_record: u8,
+    depth: usize,
+    place: usize,
+    has_record: bool,
     words: &[u64],
     path: &[u64],
     index: &mut usize,

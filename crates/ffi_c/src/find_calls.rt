@@ -1,4 +1,4 @@
-// The finder of a clash, for each kind. Where a has-record flag is 0, that opening claims nothing.
+// The finder of a clash, for each kind. Where a has-record flag is false, that opening claims nothing.
 ghost use Rattle.std.specs.Prelude.{◌≡◌};
 ghost use Rattle.kinds.specs.Kinds.{drill};
 ghost use Rattle.rpo_kinds.specs.Mappings.{rpo_128, rpo_160};
@@ -13,12 +13,12 @@ use rpo_kinds::rpo160::Rpo160;
 #[unsafe(no_mangle)]
 pub extern "C" fn drill_find(
     root: &[u64],
-    depth: u8,
-    place: u16,
-    first_has_record: u8,
+    depth: usize,
+    place: usize,
+    first_has_record: bool,
     first_record: &[u64],
     first_path: &[u64],
-    second_has_record: u8,
+    second_has_record: bool,
     second_record: &[u64],
     second_path: &[u64],
     out: &mut [u64],
@@ -38,12 +38,12 @@ pub extern "C" fn drill_find(
 #[unsafe(no_mangle)]
 pub extern "C" fn rpo128_find(
     root: &[u64],
-    depth: u8,
-    place: u16,
-    first_has_record: u8,
+    depth: usize,
+    place: usize,
+    first_has_record: bool,
     first_record: &[u64],
     first_path: &[u64],
-    second_has_record: u8,
+    second_has_record: bool,
     second_record: &[u64],
     second_path: &[u64],
     out: &mut [u64],
@@ -72,12 +72,12 @@ pub extern "C" fn rpo128_find(
 #[unsafe(no_mangle)]
 pub extern "C" fn rpo160_find(
     root: &[u64],
-    depth: u8,
-    place: u16,
-    first_has_record: u8,
+    depth: usize,
+    place: usize,
+    first_has_record: bool,
     first_record: &[u64],
     first_path: &[u64],
-    second_has_record: u8,
+    second_has_record: bool,
     second_record: &[u64],
     second_path: &[u64],
     out: &mut [u64],
