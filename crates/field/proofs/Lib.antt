@@ -2,6 +2,7 @@ pub mod Products
 pub mod Powers
 pub mod Chain
 pub mod Each
+pub mod Threes
 pub mod Euclid
 pub mod Inverse
 pub mod Proth

@@ -179,8 +179,8 @@ fn round(a: [u64; 25], word: u64) -> [u64; 25]
 pub fn keccak_f(mut lanes: [u64; 25]) -> [u64; 25]
     ensures { result ≡ keccak_f lanes }
 {
-    for word in ROUND_WORDS {
-        let next = round(lanes, word);
+    for word in ROUND_WORDS.iter() {
+        let next = round(lanes, *word);
         lanes = next;
     }
     lanes
