@@ -169,13 +169,16 @@ fn iota(mut a: [u64; 25], word: u64) -> [u64; 25]
     a
 }
 
+// In line: a call would pass the lanes through memory.
+#[inline(always)]
 fn round(a: [u64; 25], word: u64) -> [u64; 25]
     ensures { result ≡ round a word }
 {
     iota(chi(rho_pi(theta(a))), word)
 }
 
-// Keccak-f[1600].
+// Keccak-f[1600]. In line, so that the lanes are not copied for a call.
+#[inline(always)]
 pub fn keccak_f(mut lanes: [u64; 25]) -> [u64; 25]
     ensures { result ≡ keccak_f lanes }
 {
