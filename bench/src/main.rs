@@ -1,7 +1,9 @@
 //! Holds the proved library against an independent implementation: first that both give the same, then their times.
+mod clock;
 mod independent;
 mod proved;
 
+use clock::now;
 use independent::P;
 use std::hint::black_box;
 
@@ -113,24 +115,6 @@ macro_rules! check_rpo {
 
 check_rpo!(check_rpo128, rpo128);
 check_rpo!(check_rpo160, rpo160);
-
-#[repr(C)]
-struct TimeSpec {
-    seconds: i64,
-    nanoseconds: i64,
-}
-
-unsafe extern "C" {
-    fn clock_gettime(clock: i32, time: *mut TimeSpec) -> i32;
-}
-
-/// The processor time of this thread in nanoseconds, which does not count what other programs take.
-fn now() -> f64 {
-    const THREAD_CPU_TIME: i32 = 3;
-    let mut t = TimeSpec { seconds: 0, nanoseconds: 0 };
-    assert_eq!(unsafe { clock_gettime(THREAD_CPU_TIME, &mut t) }, 0);
-    t.seconds as f64 * 1e9 + t.nanoseconds as f64
-}
 
 /// Nanoseconds for each of `count` units of one call.
 fn time(count: u64, call: &mut dyn FnMut()) -> f64 {

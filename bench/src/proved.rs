@@ -1,4 +1,5 @@
 //! The functions of the proved library, as safe calls. A slice is a pointer and a length.
+#![allow(dead_code)] // each program makes some of the calls
 
 mod raw {
     unsafe extern "C" {
@@ -6,6 +7,13 @@ mod raw {
         pub fn field_product_chain(x: u64, y: u64, n: u64) -> u64;
         pub fn field_products(xs: *mut u64, xs_len: usize, ys: *const u64, ys_len: usize) -> u8;
         pub fn keccak_f1600(lanes: *mut u64);
+        pub fn script_lines(
+            script: *const u8,
+            script_len: usize,
+            out: *mut u8,
+            out_len: usize,
+            written: *mut usize,
+        ) -> u8;
         pub fn rpo128_permute(constants: *const u64, state: *mut u64);
         pub fn rpo160_permute(constants: *const u64, state: *mut u64);
         pub fn rpo128_digest(words: *const u64, words_len: usize, out: *mut u64, out_len: usize) -> u8;
@@ -61,6 +69,10 @@ pub fn products(xs: &mut [u64], ys: &[u64]) -> u8 {
 
 pub fn keccak_f(lanes: &mut [u64; 25]) {
     unsafe { raw::keccak_f1600(lanes.as_mut_ptr()) }
+}
+
+pub fn script_lines(script: &[u8], out: &mut [u8], written: &mut usize) -> u8 {
+    unsafe { raw::script_lines(script.as_ptr(), script.len(), out.as_mut_ptr(), out.len(), written) }
 }
 
 macro_rules! rpo {
