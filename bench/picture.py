@@ -1,5 +1,6 @@
 #!/usr/bin/env python3
-"""Tables and pictures of how cost grows, from the lines of bench/src/growth.rs: picture.py FOLDER, which gets growth-words.svg and growth-depth.svg."""
+"""Tables and pictures of how cost grows, from the lines of one or more runs of bench/src/growth.rs, of which the least time counts:
+picture.py FOLDER, which gets growth-words.svg and growth-depth.svg."""
 import math
 import sys
 from pathlib import Path
@@ -9,20 +10,26 @@ COLOURS = {"RPO-128": "#1f5fa8", "RPO-160": "#b4521e"}
 
 
 def read(lines):
-    """What is measured, by its name and kind: the times by the number they belong to."""
+    """What is measured, by its name and kind: the least time by the number it belongs to."""
     series = {}
     for line in lines:
         name, number, time = line.split("\t")
         what, kind = name.split(" ")
-        series.setdefault(what, {}).setdefault(kind, {})[int(number)] = float(time)
+        times = series.setdefault(what, {}).setdefault(kind, {})
+        times[int(number)] = min(float(time), times.get(int(number), math.inf))
     return series
 
 
-def table(title, unit, kinds):
+def less(one, other, share=1):
+    """By kind and number what one takes more than the other, where a series of one number stands for all."""
+    return {kind: {n: max(0.0, t - other[kind].get(n, other[kind][8])) / share for n, t in times.items()} for kind, times in one.items()}
+
+
+def table(title, kinds):
     print("| %s | %s |" % (title, " | ".join("%s, µs" % kind for kind in kinds)))
     print("|---|%s" % ("---|" * len(kinds)))
     for number in sorted(next(iter(kinds.values()))):
-        print("| %d%s | %s |" % (number, unit, " | ".join("{:,.1f}".format(times[number]) for times in kinds.values())))
+        print("| %d | %s |" % (number, " | ".join("{:,.1f}".format(times[number]) for times in kinds.values())))
     print()
 
 
@@ -81,12 +88,14 @@ def picture(path, title, label, kinds, across_log, marks):
 def main():
     series = read(sys.stdin)
     folder = Path(sys.argv[1])
-    table("digest of a record", " words", series["digest"])
-    table("closing a lot", " deep", series["close"])
-    table("a record in a lot, begun, fed and sealed", " words", series["record"])
-    table("its seal alone", " words", series["seal"])
+    depth_8 = {kind: {8: times[8]} for kind, times in series["start"].items()}
+    closing = less(series["close"], series["start"])
+    table("digest of a record, constants derived, words", series["digest"])
+    table("closing a lot, depth", closing)
+    table("a record in a lot, begun, fed and sealed, words", less(series["record"], depth_8, 100))
+    table("its seal alone, words", less(series["record"], series["dropped"], 100))
     picture(folder / "growth-words.svg", "Digest of a record", "words", series["digest"], True, [1, 8, 64, 512, 4096])
-    picture(folder / "growth-depth.svg", "Closing a lot", "depth", {k: {n: t for n, t in v.items() if n} for k, v in series["close"].items()}, False, range(1, 9))
+    picture(folder / "growth-depth.svg", "Closing a lot", "depth", {k: {n: t for n, t in v.items() if n} for k, v in closing.items()}, False, range(1, 9))
 
 
 main()

@@ -1,5 +1,6 @@
 //! How the proved library's cost grows: a digest with its words, a closing with the depth, a record in a lot with its words.
-//! Prints lines of a name, a number and microseconds; bench/growth makes a table and a picture of them.
+//! Prints lines of a name, a number and microseconds; those of scripts have the start of a lot in them, and a hundred records.
+//! bench/picture.py makes tables and pictures of them.
 mod clock;
 mod proved;
 
@@ -36,18 +37,18 @@ fn digests() {
     }
 }
 
-/// The script that starts a lot of a kind with a depth, and one more command behind it or none.
-fn started(kind: u8, depth: u8, command: &[u8]) -> Vec<u8> {
+/// The script that starts a lot of a kind with a depth, and what follows.
+fn started(kind: u8, depth: u8, rest: &[u8]) -> Vec<u8> {
     let mut script = vec![0x01, kind, depth];
-    script.extend_from_slice(command);
+    script.extend_from_slice(rest);
     script
 }
 
 fn closings() {
     for (name, kind) in KINDS {
         for depth in 0..=8 {
-            let time = script_time(&started(kind, depth, &[0x17])) - script_time(&started(kind, depth, &[]));
-            println!("close {name}\t{depth}\t{:.2}", time.max(0.0));
+            println!("start {name}\t{depth}\t{:.2}", script_time(&started(kind, depth, &[])));
+            println!("close {name}\t{depth}\t{:.2}", script_time(&started(kind, depth, &[0x17])));
         }
     }
 }
@@ -68,14 +69,12 @@ fn record_script(words: u16, sealed: bool) -> Vec<u8> {
 }
 
 fn records() {
-    const TIMES: usize = 100;
     for (name, kind) in KINDS {
         for words in [1, 2, 4, 8, 16, 32, 64] {
-            let empty = script_time(&started(kind, 8, &[]));
-            let all = script_time(&started(kind, 8, &record_script(words, true).repeat(TIMES)));
-            let abandoned = script_time(&started(kind, 8, &record_script(words, false).repeat(TIMES)));
-            println!("record {name}\t{words}\t{:.2}", (all - empty) / TIMES as f64);
-            println!("seal {name}\t{words}\t{:.2}", (all - abandoned).max(0.0) / TIMES as f64);
+            for (what, sealed) in [("record", true), ("dropped", false)] {
+                let script = started(kind, 8, &record_script(words, sealed).repeat(100));
+                println!("{what} {name}\t{words}\t{:.2}", script_time(&script));
+            }
         }
     }
 }
