@@ -48,24 +48,25 @@ static void *block(size_t n, size_t size) {
     return p;
 }
 
-/* Memory is not given back: the program ends soon. */
-static struct list take_list(void) {
+/* Room for as many words as are told; "-" is NULL with length 0. Memory is not given back: the program ends soon. */
+static struct list take_size(void) {
     const char *token = take();
     if (strcmp(token, "-") == 0)
         return (struct list){NULL, 0};
     struct list list = {NULL, strtoull(token, NULL, 10)};
     list.words = block(list.n, sizeof *list.words);
+    return list;
+}
+
+static struct list take_list(void) {
+    struct list list = take_size();
     for (size_t i = 0; i < list.n; i++)
         list.words[i] = take_number();
     return list;
 }
 
 static struct list take_room(void) {
-    const char *token = take();
-    if (strcmp(token, "-") == 0)
-        return (struct list){NULL, 0};
-    struct list list = {NULL, strtoull(token, NULL, 10)};
-    list.words = block(list.n, sizeof *list.words);
+    struct list list = take_size();
     for (size_t i = 0; i < list.n; i++)
         list.words[i] = 1000 + i;
     return list;
