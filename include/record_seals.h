@@ -86,6 +86,9 @@ uint8_t rpo160_reverse_state(uint64_t *state, size_t state_len);
  * The check of an opening: whether a claim at a place of a tree belongs to a root. SEALS_ACCEPTED, and no other answer, says that
  * it does. The claim is the record where has_record is true, else that the place is empty; the record is not looked at then.
  * root has w words, path depth * w, the leaf's sibling first.
+ * A root belongs to one depth: under the same root a check at another depth can accept a record that nobody measured, as two
+ * neighbouring nodes pass for a record at a smaller depth. So depth, as the kind, has to come from where the root comes from, and
+ * never from whoever hands over the opening.
  * Order: DEPTH_TOO_LARGE, NO_SUCH_PLACE, BAD_LENGTH, BAD_BUFFER, NOT_ELEMENT, NOT_ACCEPTED.
  * With NOT_ELEMENT *index is where the word stands, counted through root, record (if one is claimed) and path; with any other answer
  * it is as it was.

@@ -27,7 +27,9 @@ pub record WorkedExamples : Type 0 where
   -- openings at the drill kind, depth 1, root 28: the record 4, 5 with path 0 is accepted at place 1, and not at place 0
   pub accepted_at_its_place : check_call 1 1 drill (28 ∷ []) 1 1 (Some (4 ∷ 5 ∷ [])) (0 ∷ []) ≡ (granted, true)
   pub not_at_another : check_call 1 1 drill (28 ∷ []) 1 0 (Some (4 ∷ 5 ∷ [])) (0 ∷ []) ≡ (granted, false)
-  -- against it at place 1: other pairs at level 0, or another record with the same digest
+  -- under the same root at depth 0, the two leaves pass for a record that was never sealed: a root belongs to one depth
+  pub accepted_at_another_depth : check_call 1 1 drill (28 ∷ []) 0 0 (Some (0 ∷ 14 ∷ [])) [] ≡ (granted, true)
+  -- against it at place 1, depth 1: other pairs at level 0, or another record with the same digest
   pub pairs_clash : find_call 1 1 drill (28 ∷ []) 1 1 (Some (4 ∷ 5 ∷ [])) (0 ∷ []) (Some (13 ∷ 0 ∷ [])) (2 ∷ []) (9 ∷ 9 ∷ 9 ∷ 9 ∷ [])
       ≡ (granted, pairs 0, 0 ∷ 14 ∷ 2 ∷ 13 ∷ [])
   pub records_clash : find_call 1 1 drill (28 ∷ []) 1 1 (Some (4 ∷ 5 ∷ [])) (0 ∷ []) (Some (14 ∷ 0 ∷ [])) (0 ∷ []) (9 ∷ 9 ∷ 9 ∷ 9 ∷ [])
