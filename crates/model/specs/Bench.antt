@@ -5,8 +5,9 @@ use Rattle.kinds.specs.Answers.{Answer, answer, if_granted}
 use Rattle.sponge.specs.Streams.{fed_all, begun}
 use Rattle.model.specs.Calls.{Call, making, begin, feed, feed_eight, seal, abandon, clear, root, History, causes}
 use Rattle.model.specs.Histories.{Hand, nothing, holding, is_nothing, short_of, in_hand, last_record, depth_of}
-use Rattle.model.specs.Trees.{lot_start, leaf, tree_value}
+use Rattle.model.specs.Trees.{lot_start, leaf, tree_value, path_of}
 use Rattle.model.specs.Lots.{Lot, Station, idle, busy, station_at, leaf_at}
+use Rattle.model.specs.Closed.{closed_root_answer, open_answer}
 
 pub record Bench : Type 0 where
   pub depth : ℕ
@@ -47,3 +48,11 @@ module _ (c w : ℕ) (F : List ℕ → List ℕ) where
   bench_buffer b (seal s) = []
   bench_buffer b (abandon s) = []
   bench_buffer b (clear p) = []
+
+  -- what it answers once it is closed, and what it leaves in the buffer: to root, and to open at a place
+  abbrev pub bench_closed_root : Bench → List ℕ → Answer × List ℕ
+  bench_closed_root b out = (closed_root_answer w out, if_granted (closed_root_answer w out) (root_of b) out)
+
+  abbrev pub bench_open : Bench → ℕ → List ℕ → Answer × List ℕ
+  bench_open b place out =
+      (open_answer w b.depth place out, if_granted (open_answer w b.depth place out) (path_of c w F b.depth (λ p. leaf c w F (b.records p)) place) out)

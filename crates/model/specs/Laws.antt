@@ -3,7 +3,7 @@ use Rattle.std.specs.Prelude.{◌≡◌, ℕ, ◌+◌, ◌-◌, ◌^◌, ◌<◌
 use Rattle.kinds.specs.Answers.{if_granted}
 use Rattle.model.specs.Calls.{Call, History}
 use Rattle.model.specs.Trees.{node, tree_value, path_of}
-use Rattle.model.specs.Bench.{bench_of, Keeps, bench_answer, bench_buffer}
+use Rattle.model.specs.Bench.{bench_of, Keeps, bench_answer, bench_buffer, bench_closed_root, bench_open}
 use Rattle.model.specs.Lots.{Lot, leaf_at, step, lot_after, history_of}
 use Rattle.model.specs.Closed.{closed, closed_root_answer, closed_root_call, open_answer, open_call}
 
@@ -22,9 +22,17 @@ module _ (c w : ℕ) (F : List ℕ → List ℕ) where
   AnswersTold = AfterAny (λ d l h. (k : Call) →
       ((step c w F l k).1 ≡ bench_answer c w F (bench_of d h) k) × ((step c w F l k).2 ≡ bench_buffer c w F (bench_of d h) k))
 
+  -- once closed, root writes the tree value of the last records, and open the path of the place in their tree, whatever the
+  -- place and the buffer
+  abbrev pub ClosedTold : Type 0
+  ClosedTold = AfterAny (λ d l h. (place : ℕ) (out : List ℕ) →
+      (closed_root_call w (closed c w F l) out ≡ bench_closed_root c w F (bench_of d h) out) × (open_call w (closed c w F l) place out ≡ bench_open c w F (bench_of d h) place out))
+
+  -- what a lot keeps and answers, while it is filled and once it is closed
   pub record LotLaws : Type 0 where
     pub keeps_last_records : KeepsLastRecords
     pub answers_told : AnswersTold
+    pub closed_told : ClosedTold
 
   -- a closed lot has the nodes of each level, and writes the tree value of its leaves and the path of each place
   pub record ClosedLaws : Type 0 where
