@@ -9,6 +9,7 @@ use Rattle.model.specs.Trees.{lot_start, leaf, tree_value, path_of}
 use Rattle.model.specs.Lots.{Lot, Station, idle, busy, station_at, leaf_at}
 use Rattle.model.specs.Closed.{closed_root_answer, open_answer}
 
+-- the depth, the record of each place, and what each station has in hand
 pub record Bench : Type 0 where
   pub depth : ℕ
   pub records : ℕ → Option (List ℕ)
@@ -35,10 +36,11 @@ module _ (c w : ℕ) (F : List ℕ → List ℕ) where
   abbrev pub root_of : Bench → List ℕ
   root_of b = tree_value c w F b.depth (λ p. leaf c w F (b.records p))
 
-  -- what the bench answers to a call, and what it leaves in the buffer
+  -- what the bench answers to a call
   abbrev pub bench_answer : Bench → Call → Answer
   bench_answer b k = answer (causes w b.depth (λ s. is_nothing (b.hands s)) (λ s. short_of (b.hands s)) k)
 
+  -- what it leaves in the buffer; root alone has one
   abbrev pub bench_buffer : Bench → Call → List ℕ
   bench_buffer b (root out) = if_granted (bench_answer b (root out)) (root_of b) out
   bench_buffer b (making d) = []
@@ -49,10 +51,11 @@ module _ (c w : ℕ) (F : List ℕ → List ℕ) where
   bench_buffer b (abandon s) = []
   bench_buffer b (clear p) = []
 
-  -- what it answers once it is closed, and what it leaves in the buffer: to root, and to open at a place
+  -- what it answers to root once it is closed, and what it leaves in the buffer
   abbrev pub bench_closed_root : Bench → List ℕ → Answer × List ℕ
   bench_closed_root b out = (closed_root_answer w out, if_granted (closed_root_answer w out) (root_of b) out)
 
+  -- the same of open at a place
   abbrev pub bench_open : Bench → ℕ → List ℕ → Answer × List ℕ
   bench_open b place out =
       (open_answer w b.depth place out, if_granted (open_answer w b.depth place out) (path_of c w F b.depth (λ p. leaf c w F (b.records p)) place) out)

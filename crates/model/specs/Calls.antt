@@ -10,6 +10,7 @@ pub data Call : Type 0 where
   making : (depth : ℕ) → Call
   begin : (station place stated : ℕ) → Call
   feed : (station word : ℕ) → Call
+  -- eight words; the laws hold for any number of them
   feed_eight : (station : ℕ) (words : List ℕ) → Call
   seal : (station : ℕ) → Call
   abandon : (station : ℕ) → Call
@@ -20,12 +21,15 @@ pub data Call : Type 0 where
 abbrev pub History : Type 0
 History = List (Call × Answer)
 
+-- refusal 1: a depth is at most 8
 abbrev pub too_deep : ℕ → Cause
 too_deep depth = (nat_lt 8 depth, 1, [])
 
+-- refusal 2: stations are 0 to 7
 abbrev pub no_station : ℕ → Cause
 no_station s = (nat_lt 7 s, 2, [])
 
+-- refusal 3: the places of a tree are 0 to 2 ^ depth - 1
 abbrev pub no_place : ℕ → ℕ → Cause
 no_place depth place = (nat_le (2 ^ depth) place, 3, [])
 

@@ -23,6 +23,7 @@ siblings_from nodes (suc levels) i = slice_index_or nodes (sibling i) [] ++ sibl
 abbrev pub closed_root_answer : ℕ → List ℕ → Answer
 closed_root_answer w out = answer (bad_buffer w out ∷ [])
 
+-- node 1, the root
 abbrev pub closed_root_call : ℕ → Closed → List ℕ → Answer × List ℕ
 closed_root_call w l out = (closed_root_answer w out, if_granted (closed_root_answer w out) (slice_index_or l.nodes 1 []) out)
 
@@ -42,6 +43,7 @@ module _ (c w : ℕ) (F : List ℕ → List ℕ) where
   heap_node depth leaves (suc high) i =
       cond (nat_lt i (2 ^ depth)) (two_to_one c w F (heap_node depth leaves high (2 * i)) (heap_node depth leaves high (2 * i + 1))) (leaves (i - 2 ^ depth))
 
+  -- nodes 1 to 2 * 2 ^ depth - 1, behind an empty list in the place of node 0
   abbrev pub all_nodes : ℕ → (ℕ → List ℕ) → List (List ℕ)
   all_nodes depth leaves = [] ∷ map (heap_node depth leaves depth) (range_with_len 1 (2 * 2 ^ depth - 1))
 

@@ -8,10 +8,12 @@ pub data Hand : Type 0 where
   nothing : Hand
   holding : (place stated : ℕ) (elements : List ℕ) → Hand
 
+-- the hand with more elements at the end of its record
 abbrev pub with_more : Hand → List ℕ → Hand
 with_more nothing ys = nothing
 with_more (holding p n xs) ys = holding p n (xs ++ ys)
 
+-- whether no record is in hand
 abbrev pub is_nothing : Hand → Bool
 is_nothing nothing = true
 is_nothing (holding p n xs) = false

@@ -16,33 +16,42 @@ pub record Lot : Type 0 where
   pub leaves : List (List ℕ)
   pub stations : List Station
 
+-- a lot of depth d just made: no place has a record, and each station is idle
 abbrev pub newly_made : ℕ → ℕ → Lot
 newly_made w d = record { depth = d; leaves = replicate (2 ^ d) (replicate w 0); stations = replicate 8 idle }
 
+-- station s; past the eight, an idle one
 abbrev pub station_at : Lot → ℕ → Station
 station_at l s = slice_index_or l.stations s idle
 
+-- the leaf at place p; past the places, w zeros
 abbrev pub leaf_at : ℕ → List (List ℕ) → ℕ → List ℕ
 leaf_at w ls p = slice_index_or ls p (replicate w 0)
 
+-- whether a station has no record in hand
 abbrev pub is_idle : Station → Bool
 is_idle idle = true
 is_idle (busy p n g s) = false
 
+-- how many elements a station lacks of its stated length
 abbrev pub lacks : Station → ℕ
 lacks idle = 0
 lacks (busy p n g s) = n - g
 
+-- the answer to a call, by what the lot has
 abbrev pub answer_to : ℕ → Lot → Call → Answer
 answer_to w l k = answer (causes w l.depth (λ s. is_idle (station_at l s)) (λ s. lacks (station_at l s)) k)
 
+-- the lot with station s replaced
 abbrev pub with_station : Lot → ℕ → Station → Lot
 with_station l s v = record { depth = l.depth; leaves = l.leaves; stations = slice_set l.stations s v }
 
 module _ (c w : ℕ) (F : List ℕ → List ℕ) where
+  -- a station that has just begun a record of n elements for place p
   abbrev pub begun_for : ℕ → ℕ → Station
   begun_for p n = busy p n 0 (begun c w (lot_start w n))
 
+  -- a station after more elements; an idle one takes none
   abbrev pub fed_with : Station → List ℕ → Station
   fed_with idle xs = idle
   fed_with (busy p n g s) xs = busy p n (g + length xs) (fed_all c w F s xs)
@@ -94,9 +103,10 @@ module _ (c w : ℕ) (F : List ℕ → List ℕ) where
   run at [] = at
   run at (k ∷ ks) = run ((step at.0 k).0, (k, (step at.0 k).1) ∷ at.1) ks
 
-  -- from a newly made lot of depth d
+  -- the lot after calls, from a newly made one of depth d
   abbrev pub lot_after : ℕ → List Call → Lot
   lot_after d ks = (run (newly_made w d, []) ks).0
 
+  -- the history of those calls
   abbrev pub history_of : ℕ → List Call → History
   history_of d ks = (run (newly_made w d, []) ks).1

@@ -6,6 +6,7 @@ use Rattle.model.specs.Histories.{last_record}
 use Rattle.model.specs.Lots.{Lot, step, lot_after, history_of}
 use Rattle.model.specs.Closed.{closed, closed_root_call, open_call}
 
+-- whether a call makes the lot anew
 abbrev pub makes : Call → Bool
 makes (making d) = true
 makes (begin s p n) = false
@@ -16,6 +17,7 @@ makes (abandon s) = false
 makes (clear p) = false
 makes (root b) = false
 
+-- calls of which none does
 abbrev pub NoMakings : List Call → Type 0
 NoMakings ks = AllByRecursion (λ k. makes k ≡ false) ks
 

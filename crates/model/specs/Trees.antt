@@ -1,4 +1,5 @@
--- The tree over the places of a lot, for a kind with capacity size c, digest size w and mapping F.
+-- The tree over the places of a lot, for a kind with capacity size c, digest size w and mapping F. Assumes that a place is below
+-- 2 ^ depth.
 use Rattle.std.specs.Prelude.{ℕ, zero, suc, ◌+◌, ◌-◌, ◌*◌, ◌/◌, ◌%◌, ◌^◌, cond, List, [], ◌++◌, length, replicate, Some, None, Option, ◌==◌}
 use Rattle.sponge.specs.Digests.{start_of, record_digest, two_to_one}
 
