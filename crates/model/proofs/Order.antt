@@ -27,7 +27,7 @@ module _ (c w : ℕ) (F : List ℕ → List ℕ) where
   either_depth l k granted e = effect_depth l k e
   either_depth l k (denied n vs) e = refl
 
-  run_depth : (ks : List Call) (at : Lot × History) → NoMakings ks → (run c w F at ks).0.depth ≡ at.0.depth
+  pub run_depth : (ks : List Call) (at : Lot × History) → NoMakings ks → (run c w F at ks).0.depth ≡ at.0.depth
   run_depth [] at none = refl
   run_depth (k ∷ ks) at none =
       run_depth ks ((step c w F at.0 k).0, (k, (step c w F at.0 k).1) ∷ at.1) none.1 ∙ either_depth at.0 k (answer_to w at.0 k) none.0

@@ -14,15 +14,16 @@ use Rattle.lines.specs.declared.writing.Heading.TheVariants as heading
 use Rattle.reader.specs.declared.orders.Order.{Order}
 use Rattle.reader.specs.declared.orders.Order.TheVariants as order
 use Rattle.reader.specs.declared.fault.ScriptFault.{ScriptFault}
-use Rattle.model.specs.Calls.{Call, begin, feed, feed_eight, seal, abandon, clear, root, History, no_place}
+use Rattle.model.specs.Calls.{Call, begin, feed, feed_eight, seal, abandon, clear, root, no_place}
 use Rattle.model.specs.Histories.{last_record}
 use Rattle.model.specs.Trees.{tree_value, path_of}
-use Rattle.model.specs.Lots.{Lot, newly_made, leaf_at, answer_to, effect, step, run}
+use Rattle.model.specs.Lots.{Lot, newly_made, leaf_at, step}
 use Rattle.model.specs.Closed as model
 use Rattle.model.specs.Closed.{closed_root_call, open_answer, open_call}
 use Rattle.model.specs.Promises.{NoMakings, Alike}
 use Rattle.model.specs.Laws.{LotLaws}
 use Rattle.model.proofs.Heaps.{closed_laws}
+use Rattle.model.proofs.Order.{run_depth}
 use Rattle.openings.specs.Checks.{check_call}
 use Rattle.promises.specs.Promises.{Promises}
 use Rattle.rpo_kinds.specs.Names.{name_of}
@@ -33,7 +34,6 @@ use Rattle.script.specs.Stages.{capacity, digest, mixing, new_lot, named_lot, st
 use Rattle.transcript.specs.Commands.{Asked}
 use Rattle.transcript.specs.Lots.{call_of, is_close, closes, call_asked, calls_of, lot_behind, order_line, started_by}
 use Rattle.transcript.specs.Promised.{call_line, history_behind, call_told, leaves_told, root_told, path_told, LinesTold, SameRecords, LinesAlike}
-use Rattle.transcript.proofs.Lots.{run_append}
 
 -- a start that is granted has a depth of at most 8
 
@@ -57,7 +57,7 @@ first_shallow (Err f, at) = tt
 pub shallow_start : (first : Asked) (l : KindName × Lot) → started_by first ≡ Ok l → l.1.depth ≤ 8
 shallow_start first l e = subst Shallow e (first_shallow first)
 
--- no command makes a lot anew
+-- no command makes a lot anew, so that its depth stays
 
 none_append : (ks js : List Call) → NoMakings ks → NoMakings js → NoMakings (ks ++ js)
 none_append [] js none none' = none'
@@ -82,35 +82,6 @@ none_made w [] = tt
 none_made w (a ∷ xs) =
     cond_both {A = List Call} (is_close a.0) [] (call_asked w a.0 ++ calls_of w xs) NoMakings (λ e. tt)
     (λ e. none_append (call_asked w a.0) (calls_of w xs) (asked_makes_none w a.0) (none_made w xs))
-
--- so the depth stays
-module _ (c w : ℕ) (F : List ℕ → List ℕ) where
-  depth_kept : (a : Answer) (l m : Lot) → m.depth ≡ l.depth → (if_granted a m l).depth ≡ l.depth
-  depth_kept granted l m e = e
-  depth_kept (denied n vs) l m e = refl
-
-  step_depth : (at : Lot × History) (k : Call) → (effect c w F at.0 k).depth ≡ at.0.depth → (run c w F at (k ∷ [])).0.depth ≡ at.0.depth
-  step_depth at k e = depth_kept (answer_to w at.0 k) at.0 (effect c w F at.0 k) e
-
-  order_depth : (at : Lot × History) (o : Order) → (run c w F at (call_of w o)).0.depth ≡ at.0.depth
-  order_depth at (order.Begin s p n) = step_depth at (begin s p n) refl
-  order_depth at (order.Feed s x) = step_depth at (feed s x) refl
-  order_depth at (order.FeedEight s xs) = step_depth at (feed_eight s xs) refl
-  order_depth at (order.Seal s) = step_depth at (seal s) refl
-  order_depth at (order.Abandon s) = step_depth at (abandon s) refl
-  order_depth at (order.Clear p) = step_depth at (clear p) refl
-  order_depth at order.Root = step_depth at (root (replicate w 0)) refl
-  order_depth at o = refl
-
-  asked_depth : (at : Lot × History) (o : Result Order ScriptFault) → (run c w F at (call_asked w o)).0.depth ≡ at.0.depth
-  asked_depth at (Ok o) = order_depth at o
-  asked_depth at (Err f) = refl
-
-  calls_depth : (xs : List Asked) (at : Lot × History) → (run c w F at (calls_of w xs)).0.depth ≡ at.0.depth
-  calls_depth [] at = refl
-  calls_depth (a ∷ xs) at =
-      cond_both {A = List Call} (is_close a.0) [] (call_asked w a.0 ++ calls_of w xs) (λ ks. (run c w F at ks).0.depth ≡ at.0.depth) (λ e. refl)
-      (λ e. ap (λ (x : Lot × History). x.0.depth) (run_append c w F at (call_asked w a.0) (calls_of w xs)) ∙ calls_depth xs (run c w F at (call_asked w a.0)) ∙ asked_depth at a.0)
 
 -- a buffer of the right length is no cause of a refusal
 fits : (w : ℕ) → answer (bad_buffer w (replicate w 0) ∷ []) ≡ granted
@@ -144,7 +115,7 @@ open_answered w depth place = ap (λ (a : Answer). cond (leb (2 ^ depth) place) 
 
 module _ (kind : KindName) (depth : ℕ) (small : depth ≤ 8) (laws : LotLaws (capacity kind) (digest kind) (mixing kind)) (promised : Promises (capacity kind) (digest kind) (mixing kind)) (xs : List Asked) where
   deep : (lot_behind kind depth xs).depth ≡ depth
-  deep = calls_depth (capacity kind) (digest kind) (mixing kind) xs (newly_made (digest kind) depth, [])
+  deep = run_depth (capacity kind) (digest kind) (mixing kind) (calls_of (digest kind) xs) (newly_made (digest kind) depth, []) (none_made (digest kind) xs)
 
   leaves_kept : leaf_at (digest kind) (lot_behind kind depth xs).leaves ≡ leaves_told kind depth xs
   leaves_kept = fun_ext (laws.keeps_last_records depth (calls_of (digest kind) xs) small).leaf_kept
@@ -246,8 +217,8 @@ module _ (kind : KindName) (depth : ℕ) (small : depth ≤ 8) (promised : Promi
       let F = mixing kind in
       let l = lot_behind kind depth one in
       let m = lot_behind kind depth other in
-      let deep = calls_depth (capacity kind) w F one (newly_made w depth, []) in
-      let deep' = calls_depth (capacity kind) w F other (newly_made w depth, []) in
+      let deep = run_depth (capacity kind) w F (calls_of w one) (newly_made w depth, []) (none_made w one) in
+      let deep' = run_depth (capacity kind) w F (calls_of w other) (newly_made w depth, []) (none_made w other) in
       rw (e, e')
       (ap (λ (x : Answer × List ℕ). numbers_told heading.Path x at) (both_alike.openings place (replicate (l.depth * w) 0))
       ∙ ap (λ (d : ℕ). numbers_told heading.Path (open_call w (model.closed (capacity kind) w F m) place (replicate (d * w) 0)) at) (deep ∙ sym deep'))
