@@ -13,22 +13,24 @@ mod tests {
     use std::alloc::Global;
     use std::test::Fail;
 
-    // The digest of n equal words into that much room is answered as it should be.
+    // The digest of the words into that much room is answered as it should be, and written exactly where it is granted: none of
+    // the digests here is all nines.
     fn check_answer<K: Kind>(
         heap: Global,
         kind: &K,
-        n: usize,
-        word: u64,
+        words: &[u64],
         room: usize,
         want: Result<(), Denial>,
     ) -> Result<(), Fail> {
-        let words = vec![in heap; word; n]?;
+        let nines = vec![in heap; 9u64; room]?;
         let mut out = vec![in heap; 9u64; room]?;
-        let got = digest(kind, &words, &mut out);
-        if got == want {
-            Ok(())
-        } else {
+        let got = digest(kind, words, &mut out);
+        if got != want {
             Err(Fail::new(format_args!("{got:?} is not {want:?}")))
+        } else if (out == nines) != want.is_err() {
+            Err(Fail::new(format_args!("{got:?} leaves another buffer")))
+        } else {
+            Ok(())
         }
     }
 
@@ -36,13 +38,20 @@ mod tests {
         let w = K::DIGEST;
         let r = K::rate();
         for n in [1, r - 1, r, r + 1, 2 * r, 4096] {
-            check_answer(heap, kind, n, P - 1, w, Ok(()))?;
+            let words = vec![in heap; P - 1; n]?;
+            check_answer(heap, kind, &words, w, Ok(()))?;
         }
         for n in [0, 4097] {
-            check_answer(heap, kind, n, P, w + 1, Err(Denial::BadLength))?;
+            let words = vec![in heap; P; n]?;
+            check_answer(heap, kind, &words, w + 1, Err(Denial::BadLength))?;
         }
-        check_answer(heap, kind, r, P, w + 1, Err(Denial::BadBuffer))?;
-        check_answer(heap, kind, r, P, w, Err(Denial::NotElement(0)))
+        let mut words = vec![in heap; P; r]?;
+        check_answer(heap, kind, &words, w + 1, Err(Denial::BadBuffer))?;
+        check_answer(heap, kind, &words, w, Err(Denial::NotElement(0)))?;
+        for i in 0..r - 1 {
+            words[i] = P - 1;
+        }
+        check_answer(heap, kind, &words, w, Err(Denial::NotElement(r - 1)))
     }
 
     #[test]
