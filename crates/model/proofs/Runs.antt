@@ -27,11 +27,12 @@ module _ {n c w : ℕ} {F : List ℕ → List ℕ} (sound : Sound n c w F) where
       let b : Bench = bench_of d (history_of c w F d ks) in
       let now = stands_after d ks small in
       let deep : l.depth ≡ b.depth = now.depth_same in
-      let leaves : ◌≡◌ {A = ℕ → List ℕ} (leaf_at w l.leaves) (λ p. leaf c w F (b.records p)) = fun_ext now.leaf_kept in
-      (ap (λ (ns : List ℕ). (closed_root_answer w out, ns)) ((closed_laws c w F).root_written l out)
-      ∙ (λ i. (closed_root_answer w out, if_granted (closed_root_answer w out) (tree_value c w F (deep i) (leaves i)) out)),
-      ap (λ (ns : List ℕ). (open_answer w l.depth place out, ns)) ((closed_laws c w F).path_written l place out)
-      ∙ (λ i. (open_answer w (deep i) place out, if_granted (open_answer w (deep i) place out) (path_of c w F (deep i) (leaves i) place) out)))
+      let leaves : ◌≡◌ {A = ℕ → List ℕ} (leaf_at w l.leaves) (λ p. leaf c w F (b.records p)) = fun_ext now.leaf_kept in (
+        ap (λ (ns : List ℕ). (closed_root_answer w out, ns)) ((closed_laws c w F).root_written l out)
+            ∙ (λ i. (closed_root_answer w out, if_granted (closed_root_answer w out) (tree_value c w F (deep i) (leaves i)) out)),
+        ap (λ (ns : List ℕ). (open_answer w l.depth place out, ns)) ((closed_laws c w F).path_written l place out)
+            ∙ (λ i. (open_answer w (deep i) place out, if_granted (open_answer w (deep i) place out) (path_of c w F (deep i) (leaves i) place) out)),
+      )
 
   pub lot_laws : LotLaws c w F
   lot_laws = record {

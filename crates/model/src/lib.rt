@@ -8,7 +8,7 @@ ghost use Rattle.model.specs.Promises.{Order};
 
 use kinds::kind::Kind;
 
-// After any calls, a lot of any kind keeps the last record of each place, and its answers are told by the history.
+// After any calls, a lot of any kind keeps the last record of each place, and its answers, closed or not, are told by the history.
 pub fn lot_laws<K: Kind>()
     ensures { LotLaws K.CAPACITY K.DIGEST K.mapping }
 {}
