@@ -45,7 +45,7 @@ pub(crate) fn report<K: Kind>(
     name: KindName,
     words: &[u64],
 ) -> io::Result<()> {
-    let number = K::NUMBER;
+    let number = name.number();
     let c = K::CAPACITY;
     let w = K::DIGEST;
     let r = K::rate();

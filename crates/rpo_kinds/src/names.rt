@@ -1,3 +1,7 @@
+use crate::rpo128::Rpo128;
+use crate::rpo160::Rpo160;
+use kinds::drill::Drill;
+use kinds::kind::Kind;
 use std::fmt;
 use std::str::FromStr;
 
@@ -12,6 +16,22 @@ pub enum KindName {
 // A number that no kind has, or a text that says none.
 #[derive(Clone, Copy, Debug, PartialEq, Eq)]
 pub struct UnknownKind;
+
+impl KindName {
+    ghost use Rattle.std.specs.Prelude.{◌≡◌};
+    ghost use Rattle.rpo_kinds.specs.Names.{name_of};
+
+    // The number that the kind itself states.
+    pub fn number(self) -> u8
+        ensures { name_of result ≡ Some self }
+    {
+        match self {
+            KindName::Drill => Drill::NUMBER,
+            KindName::Rpo128 => Rpo128::NUMBER,
+            KindName::Rpo160 => Rpo160::NUMBER,
+        }
+    }
+}
 
 impl TryFrom<u8> for KindName {
     type Error = UnknownKind;
