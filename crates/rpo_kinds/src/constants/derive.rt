@@ -35,7 +35,7 @@ fn read<const N: usize>(bytes: &[u8]) -> [u64; N]
 
 impl<const N: usize> RoundConstants<N> {
     // The constants that a text names; `stream` is room for nine bytes each.
-    pub fn named(text: &[u8], stream: &mut [u8]) -> RoundConstants<N>
+    pub(crate) fn named(text: &[u8], stream: &mut [u8]) -> RoundConstants<N>
         requires { length stream.old ≡ 9 * N }
         ensures { result.words ≡ constants_named text.now N }
     {
