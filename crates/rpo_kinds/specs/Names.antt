@@ -4,6 +4,7 @@ use Rattle.rpo_kinds.specs.declared.names.KindName.{KindName}
 use Rattle.rpo_kinds.specs.declared.names.KindName.TheVariants as kind
 use Rattle.rpo_kinds.specs.declared.names.UnknownKind.{UnknownKind}
 
+-- the kind of that number, if there is one
 abbrev pub name_of : ℕ → Option KindName
 name_of byte = cond (byte == 0) (Some kind.Drill) (cond (byte == 1) (Some kind.Rpo128) (cond (byte == 2) (Some kind.Rpo160) None))
 
