@@ -7,6 +7,7 @@ use Rattle.kinds.specs.declared.denial.Layer.{Layer}
 use Rattle.kinds.specs.declared.denial.Layer.TheVariants as layer
 use Rattle.kinds.specs.Answers.{Answer, granted, denied}
 
+-- the number of a denial
 abbrev pub number_of : Denial → ℕ
 number_of denial.DepthTooLarge = 1
 number_of denial.NoSuchStation = 2
@@ -22,6 +23,7 @@ number_of denial.FirstNotAccepted = 11
 number_of denial.SecondNotAccepted = 12
 number_of denial.OpeningsAlike = 13
 
+-- which part of the software denies
 abbrev pub layer_of : Denial → Layer
 layer_of denial.DepthTooLarge = layer.Lot
 layer_of denial.NoSuchStation = layer.Station

@@ -11,5 +11,6 @@ bad_buffer n s = (not (length s == n), 10, [])
 abbrev pub permute_answer : ℕ → List ℕ → Answer
 permute_answer m s = answer (bad_buffer m s ∷ not_elements s ∷ [])
 
+-- its answer, and the state after: F of it where it is granted, else as it was
 abbrev pub permute_call : ℕ → (List ℕ → List ℕ) → List ℕ → Answer × List ℕ
 permute_call m F s = (permute_answer m s, if_granted (permute_answer m s) (F s) s)

@@ -8,7 +8,7 @@ use crate::denial::Denial;
 use field::element::P;
 
 // Where the first word stands that is no element.
-pub fn first_bad(words: &[u64]) -> Option<usize>
+pub fn bad_place(words: &[u64]) -> Option<usize>
     ensures { result ≡ position (λ x. nat_le p x) words.now }
 {
     words.iter().position(|x| *x >= P)
@@ -20,7 +20,7 @@ pub fn admit(before: usize, words: &[u64]) -> Result<(), Denial>
     ensures answer { told result ≡ answer (not_elements_past before words.now ∷ []) }
     ensures each { IfOk result (λ done. Elements words.now) }
 {
-    match first_bad(words) {
+    match bad_place(words) {
         Some(i) => Err(Denial::NotElement(before + i)),
         None => Ok(()),
     }
