@@ -1,5 +1,7 @@
--- Digests of records and of pairs of digests, over a kind with capacity size c, digest size w and mapping F.
-use Rattle.std.specs.Prelude.{ℕ, zero, suc, ◌+◌, ◌-◌, ◌*◌, ◌/◌, ◌%◌, cond, List, [], ◌∷◌, ◌++◌, length, take, drop, replicate, ◌==◌}
+-- Digests of records and of pairs of digests, over a kind with capacity size c, digest size w and mapping F. Assumes 1 ≤ c and
+-- 1 ≤ w, as the law of a kind gives.
+use Rattle.std.specs.Prelude.{◌≡◌, ℕ, zero, suc, ◌+◌, ◌-◌, ◌*◌, ◌/◌, ◌%◌, cond, List, [], ◌∷◌, ◌++◌, length, take, drop, replicate, ◌==◌}
+use Rattle.kinds.specs.Kinds.{State}
 
 -- the digest in a state: elements c to c + w - 1
 abbrev pub cut : ℕ → ℕ → List ℕ → List ℕ
@@ -9,6 +11,7 @@ cut c w s = take w (drop c s)
 abbrev pub filling : ℕ → ℕ → List ℕ
 filling w n = cond (n % (2 * w) == 0) [] (1 ∷ replicate (2 * w - (n % (2 * w) + 1)) 0)
 
+-- a record with its last block filled up
 abbrev pub filled : ℕ → List ℕ → List ℕ
 filled w xs = xs ++ filling w (length xs)
 
@@ -36,3 +39,7 @@ digest_of c w F xs = record_digest c w F (start_of w (length xs)) xs
 -- the two-to-one hash of digests a and b
 abbrev pub two_to_one : ℕ → ℕ → (List ℕ → List ℕ) → List ℕ → List ℕ → List ℕ
 two_to_one c w F a b = cut c w (F (replicate c 0 ++ (a ++ b)))
+
+-- the two-to-one hash of two digests is the digest of the record that they make together
+abbrev pub PairsAreRecords : ℕ → ℕ → (List ℕ → List ℕ) → Type 0
+PairsAreRecords c w F = (a b : List ℕ) → State w a → State w b → two_to_one c w F a b ≡ digest_of c w F (a ++ b)
