@@ -54,7 +54,7 @@ pub fn permute_code<K: Kind>(kind: &K, state: &mut [u64]) -> u8
 }
 
 pub fn reverse_code<K: Reversible>(kind: &K, state: &mut [u64]) -> u8
-    ensures { (result, state.new) ≡ coded (permute_call K.STATE K.back state.old) }
+    ensures { (result, state.new) ≡ coded (permute_call (K.CAPACITY + 2 * K.DIGEST) K.back state.old) }
 {
     code(reverse(kind, state))
 }

@@ -6,14 +6,15 @@ use Rattle.std.proofs.lemmas.Bool.{cases_lt}
 use Rattle.field.specs.Field.{p, Elements, sum_of, difference_of, power_of, exponent_d}
 use Rattle.field.specs.Primes.{Prime, UndoneEachWay}
 use Rattle.field.proofs.Inverse.{powers_undone}
+use Rattle.field.proofs.Goldilocks.{p_prime}
 use Rattle.kinds.specs.Kinds.{State}
 use Rattle.rpo.specs.Matrix.{times, times_at}
 use Rattle.rpo.specs.Rows.{row_12, inverse_12, row_16, inverse_16}
-use Rattle.rpo.specs.Permutation.{keyed, unkeyed, raised, half, half_back, round, round_back, forward, backward}
-use Rattle.rpo.specs.Undo.{Inverse, InverseRows, Undo, UndoBoth}
+use Rattle.rpo.specs.Permutation.{keyed, unkeyed, raised, half, half_back, round, round_back, forward, backward, permuted, reversed}
+use Rattle.rpo.specs.Undo.{Inverse, Inverses, InverseRows, UndoBy, Undo, UndoBoth}
 use Rattle.rpo.proofs.Inverses.{made_at, made_state, times_undone}
 
-below : (n : ℕ) → n % p < p
+pub below : (n : ℕ) → n % p < p
 below n = omega arith
 
 pub times_state : (row s : List ℕ) → State (length row) (times row s)
@@ -164,6 +165,16 @@ pub undo : Undo
 undo pr row inverse k (there, back) each s st =
     let u = powers_undone pr in
     (there_and_back u row inverse k there back each 7 s st, back_and_there u row inverse k there back each 7 s st)
+
+-- two mappings that are these, on states of m elements
+pub undone_by : {m l : ℕ} {row inverse : List ℕ} {F G : List ℕ → List ℕ} (k : List ℕ) → Elements k → m ≡ l → length row ≡ m → Inverses row inverse
+    → ((s : List ℕ) → F s ≡ permuted row k s) → ((s : List ℕ) → G s ≡ reversed inverse k s) → UndoBy l F G
+undone_by {m} {l} {row} {inverse} {F} {G} k each em er inverses mixes unmixes s st =
+    let same : l ≡ length row = omega arith in
+    let both = undo p_prime row inverse k inverses each s (rw same at st) in (
+      unmixes (F s) ∙ ap (reversed inverse k) (mixes s) ∙ both.0,
+      mixes (G s) ∙ ap (permuted row k) (unmixes s) ∙ both.1,
+    )
 
 -- the products of the tables, computed
 pub inverse_rows : InverseRows

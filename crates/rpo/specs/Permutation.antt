@@ -1,5 +1,6 @@
 -- The permutation F and its reverse G, over the first row of a circulant matrix, the first row of the
--- inverse matrix, and the round constants: 2 * m to a round for a state of m elements.
+-- inverse matrix, and the round constants, any numbers: 2 * m to a round for a state of m elements. Assumes 14 * m of
+-- them; one that is missing counts as 0.
 use Rattle.std.specs.Prelude.{ℕ, zero, suc, ◌+◌, ◌*◌, List, map, length, slice_index}
 use Rattle.field.specs.Field.{sum_of, difference_of, power_of, exponent_d}
 use Rattle.rpo.specs.Matrix.{made_by, times}

@@ -92,11 +92,12 @@ impl<S: ParameterSet<M, N>, const M: usize, const N: usize> Kind for Rpo<S, M, N
 }
 
 impl<S: ParameterSet<M, N>, const M: usize, const N: usize> Reversible for Rpo<S, M, N> {
-    const STATE: usize = M;
-
-    ghost STATE = { M };
+    ghost use Rattle.rpo.proofs.Rounds.{undone_by};
+    ghost use Rattle.rpo_kinds.specs.Constants.{elements_named};
 
     ghost back = { S.back };
+
+    ghost undoes = { undone_by _ (elements_named S.text N) S.sizes.0 S.sizes.2 S.inverses S.mixes S.unmixes };
 
     fn unmix(&self, state: &mut [u64]) {
         let s = state.as_mut_array().unwrap();

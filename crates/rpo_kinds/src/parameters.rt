@@ -1,8 +1,9 @@
 // A set of parameters: what sets one RPO kind apart from another.
-ghost use Rattle.std.specs.Prelude.{◌≡◌, ℕ, ◌+◌, ◌*◌, List};
+ghost use Rattle.std.specs.Prelude.{◌≡◌, ℕ, ◌+◌, ◌*◌, List, length};
 ghost use Rattle.kinds.specs.Kinds.{Sound};
 ghost use Rattle.rpo.specs.FirstRow.{first_row};
 ghost use Rattle.rpo.specs.Permutation.{permuted, reversed};
+ghost use Rattle.rpo.specs.Undo.{Inverses};
 ghost use Rattle.rpo_kinds.specs.Constants.{constants_named};
 
 use rpo::matrix::{Circulant, SmallCirculant};
@@ -40,11 +41,13 @@ pub trait ParameterSet<const M: usize, const N: usize> {
     fn inverse() -> Circulant<M>
         ensures { first_row M result ≡ inverse_row };
 
-    ghost sizes: { (M ≡ CAPACITY + 2 * DIGEST) × (N ≡ 14 * M) };
+    ghost sizes: { (M ≡ CAPACITY + 2 * DIGEST) × (N ≡ 14 * M) × (length matrix_row ≡ M) };
 
     ghost sound: { Sound NUMBER CAPACITY DIGEST mapping };
 
     ghost mixes: { (s : List ℕ) → mapping s ≡ permuted matrix_row (constants_named text N) s };
 
     ghost unmixes: { (s : List ℕ) → back s ≡ reversed inverse_row (constants_named text N) s };
+
+    ghost inverses: { Inverses matrix_row inverse_row };
 }

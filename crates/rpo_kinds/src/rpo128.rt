@@ -1,6 +1,6 @@
 ghost use Rattle.std.specs.Prelude.{◌≡◌, refl};
 ghost use Rattle.std.proofs.Common.{arith};
-ghost use Rattle.rpo.proofs.Rounds.{forward_state};
+ghost use Rattle.rpo.proofs.Rounds.{forward_state, inverse_rows};
 ghost use Rattle.rpo.specs.Rows.{row_12, inverse_12};
 ghost use Rattle.rpo_kinds.specs.Constants.{constants_named};
 ghost use Rattle.rpo_kinds.specs.Mappings.{text_128, rpo_128, rpo_128_back};
@@ -52,7 +52,7 @@ impl ParameterSet<12, 168> for Set128 {
         inverse_matrix_12()
     }
 
-    ghost sizes = { (refl, refl) };
+    ghost sizes = { (refl, refl, refl) };
 
     ghost sound = { unfold rpo_128 in
         record {
@@ -66,6 +66,8 @@ impl ParameterSet<12, 168> for Set128 {
     ghost mixes = { unfold rpo_128 in λ s. refl };
 
     ghost unmixes = { unfold rpo_128_back in λ s. refl };
+
+    ghost inverses = { inverse_rows.0 };
 }
 
 impl Rpo<Set128, 12, 168> {

@@ -1,6 +1,6 @@
 ghost use Rattle.std.specs.Prelude.{◌≡◌, refl};
 ghost use Rattle.std.proofs.Common.{arith};
-ghost use Rattle.rpo.proofs.Rounds.{forward_state};
+ghost use Rattle.rpo.proofs.Rounds.{forward_state, inverse_rows};
 ghost use Rattle.rpo.specs.Rows.{row_16, inverse_16};
 ghost use Rattle.rpo_kinds.specs.Constants.{constants_named};
 ghost use Rattle.rpo_kinds.specs.Mappings.{text_160, rpo_160, rpo_160_back};
@@ -52,7 +52,7 @@ impl ParameterSet<16, 224> for Set160 {
         inverse_matrix_16()
     }
 
-    ghost sizes = { (refl, refl) };
+    ghost sizes = { (refl, refl, refl) };
 
     ghost sound = { unfold rpo_160 in
         record {
@@ -66,6 +66,8 @@ impl ParameterSet<16, 224> for Set160 {
     ghost mixes = { unfold rpo_160 in λ s. refl };
 
     ghost unmixes = { unfold rpo_160_back in λ s. refl };
+
+    ghost inverses = { inverse_rows.1 };
 }
 
 impl Rpo<Set160, 16, 224> {

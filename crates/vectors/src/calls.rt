@@ -70,7 +70,7 @@ fn run_any<K: Kind>(rt: &HostRuntime, kind: &K, call: &Call) -> io::Result<()> {
     }
 }
 
-fn run_reversible<K: Kind + Reversible>(rt: &HostRuntime, kind: &K, call: &Call) -> io::Result<()> {
+fn run_reversible<K: Reversible>(rt: &HostRuntime, kind: &K, call: &Call) -> io::Result<()> {
     match call {
         Call::Reverse { state } => run(rt, state, |state| reverse(kind, state)),
         _ => run_any(rt, kind, call),
