@@ -41,6 +41,15 @@ def edges():
     yield from ["feed 7 0", "seal 7", "root"]
 
 
+def too_large():
+    """Operands too large for their width. Cut down to it, most would be of a depth, station, place or length that there is."""
+    yield from ["lot drill", "make 256", "make %d" % (2**64 - 1), "make 1"]
+    yield from ["begin 256 0 1", "begin 0 65536 1", "begin 0 0 65537", "begin 0 %d 1" % (2**64 - 1), "begin 0 0 1"]
+    yield from ["feed 256 4", "feed-eight 256 1 2 3 4 5 6 7 8", "feed 0 4", "seal 256", "abandon 256", "seal 0"]
+    yield from ["clear 65536", "root", "close", "open 65536", "check-empty 65537", "check 65536 4", "root"]
+    yield from ["clash 257 1 28 4 5 0 13 0 2", "clash 1 65537 28 4 5 0 13 0 2"]
+
+
 def clashes():
     """Two openings at the drill kind that clash, and two that do not."""
     yield "clash 1 1 28 4 5 0 13 0 2"
@@ -116,7 +125,7 @@ def answers(lines):
 
 
 def main():
-    lines = [line for kind in KINDS for line in story(kind)] + list(edges()) + list(clashes())
+    lines = [line for kind in KINDS for line in story(kind)] + list(edges()) + list(clashes()) + list(too_large())
     made = {"stdin": lines, "stdout": list(answers(lines))}
     stale = [name for name, text in made.items()
              if not (FOLDER / name).is_file() or (FOLDER / name).read_text() != "\n".join(text) + "\n"]

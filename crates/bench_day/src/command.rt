@@ -1,5 +1,6 @@
 use crate::clashes::{Told, TwoOpenings};
 use console::input::{Unread, parse_numbers};
+use openings::operands::{one_byte, two_bytes};
 use std::alloc::Global;
 
 // What a line asks of a lot, filling or closed.
@@ -20,34 +21,24 @@ pub enum Command {
     Clash(TwoOpenings),
 }
 
-// A number as a station or a depth; one that is too large stays one that no lot has.
-fn small(x: u64) -> u8 {
-    u8::try_from(x).unwrap_or(u8::MAX)
-}
-
-// A number as a place or a length.
-fn medium(x: u64) -> u16 {
-    u16::try_from(x).unwrap_or(u16::MAX)
-}
-
 // The command of a name and a few numbers.
 fn short_command(name: &str, n: &[u64]) -> Option<Command> {
     match (name, n) {
-        ("make", [d]) => Some(Command::Make(small(*d))),
-        ("begin", [s, p, l]) => Some(Command::Begin(small(*s), medium(*p), medium(*l))),
-        ("feed", [s, x]) => Some(Command::Feed(small(*s), *x)),
+        ("make", [d]) => Some(Command::Make(one_byte(*d))),
+        ("begin", [s, p, l]) => Some(Command::Begin(one_byte(*s), two_bytes(*p), two_bytes(*l))),
+        ("feed", [s, x]) => Some(Command::Feed(one_byte(*s), *x)),
         ("feed-eight", [s, a, b, c, d, e, f, g, h]) => {
-            Some(Command::FeedEight(small(*s), [*a, *b, *c, *d, *e, *f, *g, *h]))
+            Some(Command::FeedEight(one_byte(*s), [*a, *b, *c, *d, *e, *f, *g, *h]))
         }
-        ("seal", [s]) => Some(Command::Seal(small(*s))),
-        ("abandon", [s]) => Some(Command::Abandon(small(*s))),
-        ("clear", [p]) => Some(Command::Clear(medium(*p))),
-        ("open", [p]) => Some(Command::Open(medium(*p))),
-        ("check-empty", [p]) => Some(Command::Check(medium(*p), None)),
+        ("seal", [s]) => Some(Command::Seal(one_byte(*s))),
+        ("abandon", [s]) => Some(Command::Abandon(one_byte(*s))),
+        ("clear", [p]) => Some(Command::Clear(two_bytes(*p))),
+        ("open", [p]) => Some(Command::Open(two_bytes(*p))),
+        ("check-empty", [p]) => Some(Command::Check(two_bytes(*p), None)),
         ("clash", [depth, place, root, a, b, under_ab, c, d, under_cd]) => {
             Some(Command::Clash(TwoOpenings {
-                depth: small(*depth),
-                place: medium(*place),
+                depth: one_byte(*depth),
+                place: two_bytes(*place),
                 root: [*root],
                 first: Told {
                     record: [*a, *b],
@@ -76,7 +67,7 @@ fn bare_command(name: &str) -> Option<Command> {
 fn command_of(name: &str, mut numbers: Vec<u64>) -> Option<Command> {
     if name == "check" && numbers.len() > 0 {
         let place = numbers.remove(0);
-        return Some(Command::Check(medium(place), Some(numbers)));
+        return Some(Command::Check(two_bytes(place), Some(numbers)));
     }
     short_command(name, &numbers)
 }

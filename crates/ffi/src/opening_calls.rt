@@ -1,5 +1,5 @@
 // The check of an opening and the finder of a clash, over any kind.
-ghost use Rattle.std.specs.Prelude.{◌≡◌, min};
+ghost use Rattle.std.specs.Prelude.{◌≡◌};
 ghost use Rattle.kinds.specs.Denials.{told};
 ghost use Rattle.openings.specs.Sites.{claim_of};
 ghost use Rattle.openings.specs.Checks.{check_call, accepted};
@@ -13,6 +13,7 @@ use kinds::denial::Denial;
 use kinds::kind::Kind;
 use openings::checking::check;
 use openings::opening::Opening;
+use openings::operands::{one_byte, two_bytes};
 
 // What the check answers where it denies nothing and the opening comes to another root.
 pub const NOT_ACCEPTED: u8 = 200;
@@ -24,20 +25,6 @@ pub fn opening_from<'a>(has_record: bool, words: &'a [u64], path: &'a [u64]) -> 
 {
     let claim = if has_record { Some(words) } else { None };
     Opening { claim, path }
-}
-
-// A depth as a tree's; one that is too large stays one that no tree has.
-fn depth_of(depth: usize) -> u8
-    ensures { result ≡ min 255 depth }
-{
-    u8::try_from(depth).unwrap_or(u8::MAX)
-}
-
-// A place as a tree's; one that is too large stays one that no tree has.
-fn place_of(place: usize) -> u16
-    ensures { result ≡ min 65535 place }
-{
-    u16::try_from(place).unwrap_or(u16::MAX)
 }
 
 // The check at a depth and a place of any size, so that none is cut down to one that a tree has.
@@ -53,8 +40,8 @@ fn check_any<K: Kind>(
     check(
         kind,
         root,
-        depth_of(depth),
-        place_of(place),
+        one_byte(depth as u64),
+        two_bytes(place as u64),
         opening.claim,
         opening.path,
     )
@@ -110,8 +97,8 @@ fn find_any<K: Kind>(
     find_clash(
         kind,
         root,
-        depth_of(depth),
-        place_of(place),
+        one_byte(depth as u64),
+        two_bytes(place as u64),
         first,
         second,
         out,

@@ -3,5 +3,6 @@
 pub mod checking;
 pub mod climbing;
 pub mod opening;
+pub mod operands;
 pub mod site;
 pub mod words;
