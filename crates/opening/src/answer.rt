@@ -1,67 +1,68 @@
-use crate::question::Question;
-use console::output::{Checked, Refused, Words};
-use finder::clash::Clash;
+ghost use Rattle.std.specs.Prelude.{◌≡◌, Some, None};
+ghost use Rattle.opening.specs.Replies.{said_by, reply_with, reply};
+
+use crate::question::{Question, Told};
+use crate::said::{Pairs, Said};
 use finder::finding::find_clash;
+use kinds::drill::Drill;
 use kinds::kind::Kind;
 use openings::checking::check;
-use openings::opening::Opening;
 use promises::promises;
-use std::io;
+use rpo_kinds::names::KindName;
+use rpo_kinds::rpo128::Rpo128;
+use rpo_kinds::rpo160::Rpo160;
 
-fn print_clash(rt: &impl Print, clash: Clash, pairs: &[u64]) -> io::Result<()> {
-    match clash {
-        Clash::Pairs { level } => {
-            let pairs = Words(pairs);
-            println!(rt; "clash: pairs of level {level}: {pairs}")
-        }
-        Clash::Records => println!(rt; "clash: two records"),
-        Clash::ZeroRecord { second } => {
-            let which = if second { "second" } else { "first" };
-            println!(rt; "clash: the digest of the {which} record is all zeros")
-        }
-    }
-}
-
-// The clash that both openings show.
-fn compare<K: Kind>(
-    rt: &impl Print,
-    kind: &K,
-    asked: &Question,
-    first: Opening<'_>,
-    second: Opening<'_>,
-) -> io::Result<()> {
-    let mut room = [0u64; 28];
-    let pairs = &mut room[..4 * K::DIGEST];
-    match find_clash(
+// Whether the opening fits the root.
+fn checked<K: Kind>(kind: &K, asked: &Question) -> Said
+    ensures { said_by result ≡ reply_with K.CAPACITY K.DIGEST K.mapping asked.now None }
+{
+    let opening = asked.first.opening();
+    Said::Checked(check(
         kind,
         &asked.root,
         asked.depth,
         asked.place,
-        first,
-        second,
-        pairs,
-    ) {
-        Ok(clash) => print_clash(rt, clash, pairs),
-        Err(why) => println!(rt; "{}", Refused(why)),
-    }
+        opening.claim,
+        opening.path,
+    ))
+}
+
+// The clash that both openings show.
+fn compared<K: Kind>(kind: &K, asked: &Question, second: &Told) -> Said
+    ensures { said_by result ≡ reply_with K.CAPACITY K.DIGEST K.mapping asked.now (Some second.now) }
+{
+    let mut words = [0u64; 28];
+    let long = 4 * K::DIGEST;
+    let found = find_clash(
+        kind,
+        &asked.root,
+        asked.depth,
+        asked.place,
+        asked.first.opening(),
+        second.opening(),
+        &mut words[..long],
+    );
+    Said::Found(found, Pairs { words, long })
 }
 
 // What a buyer relies on is the contract of `promises`, for every kind.
-pub(crate) fn answer<K: Kind>(rt: &impl Print, kind: &K, asked: &Question) -> io::Result<()> {
+fn answer_at<K: Kind>(kind: &K, asked: &Question) -> Said
+    ensures { said_by result ≡ reply_with K.CAPACITY K.DIGEST K.mapping asked.now asked.now.second }
+{
     promises::<K>();
-    let first = asked.first.opening();
     match &asked.second {
-        Some(second) => compare(rt, kind, asked, first, second.opening()),
-        None => {
-            let checked = Checked(check(
-                kind,
-                &asked.root,
-                asked.depth,
-                asked.place,
-                first.claim,
-                first.path,
-            ));
-            println!(rt; "{checked}")
-        }
+        Some(second) => compared(kind, asked, second),
+        None => checked(kind, asked),
+    }
+}
+
+// The answer at the kind that is named.
+pub(crate) fn answer(asked: &Question) -> Said
+    ensures { said_by result ≡ reply asked.now }
+{
+    match asked.kind {
+        KindName::Drill => answer_at(&Drill, asked),
+        KindName::Rpo128 => answer_at(&Rpo128::new(), asked),
+        KindName::Rpo160 => answer_at(&Rpo160::new(), asked),
     }
 }

@@ -4,14 +4,11 @@
 
 mod answer;
 mod question;
+mod said;
 
 use crate::answer::answer;
 use crate::question::{Question, read_question};
 use console::input::{Unread, read_text};
-use kinds::drill::Drill;
-use rpo_kinds::names::KindName;
-use rpo_kinds::rpo128::Rpo128;
-use rpo_kinds::rpo160::Rpo160;
 use std::io;
 
 fn read(rt: &HostRuntime) -> Result<Question, Unread> {
@@ -21,11 +18,7 @@ fn read(rt: &HostRuntime) -> Result<Question, Unread> {
 
 fn main(rt: HostRuntime) -> io::Result<()> {
     match read(&rt) {
-        Ok(question) => match question.kind {
-            KindName::Drill => answer(&rt, &Drill, &question),
-            KindName::Rpo128 => answer(&rt, &Rpo128::new(), &question),
-            KindName::Rpo160 => answer(&rt, &Rpo160::new(), &question),
-        },
+        Ok(question) => println!(rt; "{}", answer(&question)),
         Err(why) => println!(rt; "cannot read: {why}"),
     }
 }

@@ -1,5 +1,10 @@
+ghost use Rattle.std.specs.Prelude.{◌≡◌};
+ghost use Rattle.openings.specs.Sites.{claim_of};
+ghost use Rattle.opening.specs.Replies.{told_claim};
+
 use console::input::{Unread, parse_numbers};
 use openings::opening::Opening;
+use openings::operands::{one_byte, two_bytes};
 use rpo_kinds::names::KindName;
 use std::alloc::Global;
 use std::str::Lines;
@@ -12,7 +17,10 @@ pub struct Told {
 }
 
 impl Told {
-    pub(crate) fn opening(&self) -> Opening<'_> {
+    pub(crate) fn opening(&self) -> Opening<'_>
+        ensures claim { claim_of result ≡ told_claim self.now }
+        ensures path { result.path.now ≡ self.now.path.items }
+    {
         Opening {
             claim: self.claim.as_deref(),
             path: &self.path,
@@ -99,8 +107,8 @@ pub(crate) fn read_question(heap: Global, text: &str) -> Result<Question, Unread
     let kind = rest.after("kind")?.parse::<KindName>()?;
     let root = rest.after("root")?;
     let root = rest.numbers(root)?;
-    let depth = u8::try_from(rest.number("depth")?).unwrap_or(u8::MAX);
-    let place = u16::try_from(rest.number("place")?).unwrap_or(u16::MAX);
+    let depth = one_byte(rest.number("depth")?);
+    let place = two_bytes(rest.number("place")?);
     let (name, claim) = rest.next().ok_or(Unread::NoCommand { line: rest.line })?;
     let first = rest.told(name, claim)?;
     let second = match rest.next() {
