@@ -14,7 +14,10 @@ use std::alloc::{AllocError, Global};
 use std::marker::Model;
 use turns::answers::{ScriptLine, answer_line};
 
-// A script that is being run: the place of the next command, and the lot so far.
+// No script may have more bytes.
+pub const LONGEST: usize = 65536;
+
+// A script that is being run: the offset of the next command, and the lot so far.
 #[derive(Drop)]
 pub struct Runner<'a> {
     script: &'a [u8],
@@ -48,7 +51,7 @@ impl<'a> Runner<'a> {
         ensures { all_told result ≡ next_command self.now }
     {
         let phase = self.stage.phase()?;
-        if self.script.len() > 65536 {
+        if self.script.len() > LONGEST {
             return Some(Err(ScriptFault::TooLong));
         }
         let at = self.at;

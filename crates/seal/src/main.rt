@@ -2,7 +2,7 @@
 #![tactic(auto)]
 
 use console::scripts::print_lines;
-use script::runner::Runner;
+use script::runner::{LONGEST, Runner};
 use std::io;
 use std::io::Read;
 use transcript::laws::{lines_of_commands, lines_promised};
@@ -12,7 +12,9 @@ fn main(rt: HostRuntime) -> io::Result<()> {
     lines_of_commands();
     lines_promised();
     let mut script = Vec::new(rt.alloc());
-    rt.stdin().take(65537).read_to_end(&mut script)?;
+    rt.stdin()
+        .take(LONGEST as u64 + 1)
+        .read_to_end(&mut script)?;
     match Runner::new(rt.alloc(), &script) {
         Ok(mut runner) => print_lines(&rt, &mut runner),
         Err(_) => println!(rt; "no memory"),
