@@ -5,10 +5,11 @@ use console::scripts::print_lines;
 use script::runner::{LONGEST, Runner};
 use std::io;
 use std::io::Read;
-use transcript::laws::{lines_of_commands, lines_promised};
+use transcript::laws::{lines_of_commands, lines_promised, reading_laws};
 
-// One byte above the limit tells that a script is too long. What a reader of the lines relies on is the contracts of the two laws.
+// One byte above the limit tells that a script is too long. What a reader of the lines relies on is the contracts of the laws.
 fn main(rt: HostRuntime) -> io::Result<()> {
+    reading_laws();
     lines_of_commands();
     lines_promised();
     let mut script = Vec::new(rt.alloc());
