@@ -96,10 +96,9 @@ close_in s at = out_of_phase at
 
 -- a command that leaves the phase as it is
 abbrev pub run_in : Stage → Order → ℕ → Stage × List ℕ
-run_in before o at = (before, fault_line (fault.OutOfPhase at) at)
 run_in (filling l) o at = (filling (any_filled l o at).0, (any_filled l o at).1)
 run_in (closed l) o at = (closed l, any_asked l o at)
-run_in ended o at = out_of_phase at
+run_in s o at = out_of_phase at
 
 unfoldable pub act : Stage → Order → ℕ → Stage × List ℕ
 act s (order.Start kind depth) at = start_in s kind depth at

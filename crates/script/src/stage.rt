@@ -64,7 +64,10 @@ impl Stage {
         match self {
             Stage::Filling(lot) => Ok(lot.fill(order, at)),
             Stage::Closed(lot) => Ok(lot.ask(order, at)),
-            _ => Err(ScriptFault::OutOfPhase(at)),
+            _ => {
+                *self = Stage::Ended;
+                Err(ScriptFault::OutOfPhase(at))
+            }
         }
     }
 

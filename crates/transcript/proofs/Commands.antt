@@ -101,7 +101,8 @@ phase_filling l verb.Start bytes at i = absurd (false≢true i)
 phase_filling l verb.Open bytes at i = absurd (false≢true i)
 phase_filling l v bytes at i = refl
 
-phase_acted : (s : Stage) (p : Phase) (v : Verb) (bytes : List ℕ) (at : ℕ) → phase_in s ≡ Some p → in_phase p v ≡ true
+-- of any command in its phase
+pub phase_acted : (s : Stage) (p : Phase) (v : Verb) (bytes : List ℕ) (at : ℕ) → phase_in s ≡ Some p → in_phase p v ≡ true
     → phase_in (act s (ordered v bytes) at).0 ≡ phase_behind p (ordered v bytes) at
 unfolding act
 phase_acted before p v bytes at h i =

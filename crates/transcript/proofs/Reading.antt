@@ -1,9 +1,10 @@
 -- The laws of a reading, from the definitions.
-use Rattle.std.proofs.Common.{◌≡◌, length, refl}
+use Rattle.std.proofs.Common.{length, refl}
 use Rattle.std.proofs.lemmas.Bool.{lt-ltb, le-ltb}
-use Rattle.script.specs.Stages.{before, filling, closed, ended, phase_in, run_in, act}
+use Rattle.script.specs.Stages.{act}
 use Rattle.script.specs.Runs.{turn, next_command}
 use Rattle.transcript.specs.Laws.{ReadingLaws}
+use Rattle.transcript.proofs.Commands.{phase_acted}
 
 pub reading_laws : ReadingLaws
 unfolding next_command turn act
@@ -12,5 +13,5 @@ reading_laws = record {
   ended_stays = λ r out h e. rw (le-ltb (length out) 1024 h, e);
   fault_ends = λ r f. refl;
   denied_start_ends = λ kind depth at f e. rw e;
-  lot_goes_on = λ s o at. elim s as (λ t. phase_in (run_in t o at).0 ≡ phase_in t) [ before ↦ refl | filling l ↦ refl | closed l ↦ refl | ended ↦ refl ];
+  goes_on = phase_acted;
 }

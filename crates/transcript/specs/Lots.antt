@@ -62,9 +62,9 @@ started_by (Ok (order.Start kind depth), at) = started kind depth at
 started_by (Ok o, at) = Err (fault.OutOfPhase at)
 started_by (Err f, at) = Err f
 
--- the line of a command behind others, of which the first made the lot; none is behind a first that is denied
+-- the line of a command behind others, of which the first made the lot; a first that is denied has none behind it
 abbrev pub lot_line : Result (KindName × Lot) ScriptFault → List Asked → Asked → List ℕ
-lot_line (Err f) before a = []
+lot_line (Err f) before a = fault_line f a.1
 lot_line (Ok l) before (Err f, at) = fault_line f at
 lot_line (Ok l) before (Ok o, at) = order_line l.0 l.1.depth before o at
 
