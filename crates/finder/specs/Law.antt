@@ -47,8 +47,8 @@ module _ (c w : ℕ) (F : List ℕ → List ℕ) where
     pub claimed : Lone second claim1 claim2 one
     pub zeros : leaf c w F (Some one) ≡ replicate w 0
 
-  -- what is shown is there, where the first opening hashes pair1 and the second pair2; unless pairs are shown, all pairs
-  -- are alike and the buffer is untouched
+  -- what is shown is there, where the first opening hashes pair1 and the second pair2. Where records or a zero record are
+  -- shown, all pairs are alike; unless pairs are shown, the buffer is untouched
   abbrev pub Real : ℕ → (ℕ → Pair) → (ℕ → Pair) → Option (List ℕ) → Option (List ℕ) → List ℕ → List ℕ → Shown → Type 0
   Real depth pair1 pair2 claim1 claim2 out written (pairs level) = PairsClash depth level pair1 pair2 written
   Real depth pair1 pair2 claim1 claim2 out written records = RecordsClash claim1 claim2 × AlikeFrom 0 depth pair1 pair2 × (written ≡ out)
@@ -70,6 +70,7 @@ module _ (c w : ℕ) (F : List ℕ → List ℕ) where
     pub when_granted : call.0 ≡ granted → call.1 ≢ nothing
     pub when_denied : (n : ℕ) (vs : List ℕ) → call.0 ≡ denied n vs → call.1 ≡ nothing
 
+  -- so for every call of the finder
   abbrev pub ClashLaw : Type 0
   ClashLaw =
       (root : List ℕ) (depth place : ℕ) (claim1 : Option (List ℕ)) (path1 : List ℕ) (claim2 : Option (List ℕ)) (path2 out : List ℕ) →
