@@ -1,31 +1,34 @@
 -- The numbers that a reading has come past.
-use Rattle.std.proofs.Common.{◌≡◌, ℕ, ◌<◌, List, [], ◌∷◌, ◌++◌, length, Ok, Err, Result, MatchResult, sym, ◌∙◌, ap, subst}
+use Rattle.std.proofs.Common.{◌≡◌, ℕ, ◌<◌, List, [], ◌∷◌, ◌++◌, length, Ok, Err, Result, MatchResult, sym, refl, ◌∙◌, ap, subst}
 use Rattle.std.proofs.lemmas.List.{append_assoc, append-nil}
 use Rattle.std.specs.Char.{is_whitespace, is_not_whitespace}
 use Rattle.std.specs.Result.{IsErrAnd}
 use Rattle.std.specs.Str.{NoCharPasses, EmptyOrStartsWithPassing}
 use Rattle.std.specs.Str.Parse.{IsNumeral, ParsesUnsigned, digits_value, without_leading_plus}
-use Rattle.console.specs.Numbers.{Begins, NumbersIn, Appended}
+use Rattle.console.specs.Numbers.{Begins, NumbersUpTo, Appended}
 
 pub record Seen (text before rest after : List ℕ) : Type 0 where
   pub numbers : List ℕ
-  pub go_on : (ys : List ℕ) → NumbersIn rest ys → NumbersIn text (numbers ++ ys)
+  pub are_in : NumbersUpTo text numbers rest
   pub follow : after ≡ before ++ numbers
 
+up_to_more : (text : List ℕ) (xs : List ℕ) (rest next : List ℕ) (x : ℕ) → NumbersUpTo text xs rest → Begins rest x next → NumbersUpTo text (xs ++ x ∷ []) next
+up_to_more text [] rest next x e b = (next, subst (λ t. Begins t x next) (sym e) b, refl)
+up_to_more text (y ∷ ys) rest next x (mid, one, h) b = (mid, one, up_to_more mid ys rest next x h b)
+
 pub none_seen : (text before rest : List ℕ) → rest ≡ text → Seen text before rest before
-none_seen text before rest e = record { numbers = []; go_on = λ ys h. subst (λ t. NumbersIn t ys) e h; follow = sym (append-nil before) }
+none_seen text before rest e = record { numbers = []; are_in = sym e; follow = sym (append-nil before) }
 
 pub one_more : (text before rest next after then : List ℕ) (x : ℕ) → Seen text before rest after → Begins rest x next → then ≡ after ++ x ∷ [] → Seen text before next then
 one_more text before rest next after then x s b e =
     record {
       numbers = s.numbers ++ x ∷ [];
-      go_on = λ ys h. rw (append_assoc s.numbers (x ∷ []) ys) (s.go_on (x ∷ ys) (next, b, h));
+      are_in = up_to_more text s.numbers rest next x s.are_in b;
       follow = e ∙ ap (λ zs. zs ++ x ∷ []) s.follow ∙ append_assoc before s.numbers (x ∷ []);
     }
 
-pub all_seen : (text before rest after : List ℕ) → Seen text before rest after → NumbersIn rest [] → Appended text before after
-all_seen text before rest after s h =
-    record { numbers = s.numbers; are_in = subst (NumbersIn text) (append-nil s.numbers) (s.go_on [] h); follow = s.follow }
+pub all_seen : (text before rest after : List ℕ) → Seen text before rest after → NoCharPasses is_not_whitespace rest → Appended text before after
+all_seen text before rest after s h = record { numbers = s.numbers; rest = rest; are_in = s.are_in; no_more = h; follow = s.follow }
 
 -- what a parse gives, whatever stands for its error
 read : {E D : Type 0} (part : List ℕ) (x : ℕ) (r : Result ℕ E) (s : Result ℕ D) (Q : E → D → Type 0) → ParsesUnsigned 64 10 part r → MatchResult r (λ y. s ≡ Ok y) (λ e. IsErrAnd s (Q e)) → s ≡ Ok x

@@ -1,6 +1,6 @@
-ghost use Rattle.std.specs.Prelude.{◌≤◌, IfOk, vec_len};
+ghost use Rattle.std.specs.Prelude.{◌≤◌, IfOk, IfErr, vec_len};
 ghost use Rattle.std.specs.String.{string_vec};
-ghost use Rattle.console.specs.Numbers.{Appended};
+ghost use Rattle.console.specs.Numbers.{Appended, Refusal};
 
 use rpo_kinds::names::UnknownKind;
 use std::alloc::{AllocError, AllocFailed};
@@ -20,12 +20,22 @@ pub enum Unread {
 }
 
 impl From<AllocError> for Unread {
+    ghost use Rattle.std.specs.Prelude.{◌≡◌};
+    ghost use Rattle.console.specs.declared.input.Unread.TheVariants.{NoMemory};
+
+    ghost from_gives = { λ e why. why ≡ NoMemory };
+
     fn from(_e: AllocError) -> Unread {
         Unread::NoMemory
     }
 }
 
 impl<T: Drop> From<AllocFailed<T>> for Unread {
+    ghost use Rattle.std.specs.Prelude.{◌≡◌};
+    ghost use Rattle.console.specs.declared.input.Unread.TheVariants.{NoMemory};
+
+    ghost from_gives = { λ e why. why ≡ NoMemory };
+
     fn from(_e: AllocFailed<T>) -> Unread {
         Unread::NoMemory
     }
@@ -96,7 +106,8 @@ pub fn parse_numbers(
     first: usize,
     text: &str,
 ) -> Result<(), Unread>
-    ensures { IfOk result (λ done. Appended text.now words.old.items words.new.items) }
+    ensures read { IfOk result (λ done. Appended text.now words.old.items words.new.items) }
+    ensures refused { IfErr result (λ why. Refusal text.now why) }
 {
     for (i, part) in text.split_whitespace().enumerate() {
         let word = i.saturating_add(first);

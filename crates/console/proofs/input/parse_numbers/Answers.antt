@@ -10,4 +10,4 @@ pub loop-i-preserved : goal.loop-i-preserved
 loop-i-preserved c = one_more _ _ _ _ _ _ c.in_ok-x.x c.loop-i.invariant (begun_by _ _ _ _ _ _ _ c.in-Some.ensures.steps.0 c.parse.ensures.value.0 c.map_err.ensures.cases c.in_ok-x.was) c.in_ok-push.ensures.items
 
 pub returns : goal.returns
-returns c = all_seen _ _ _ _ c.loop-i.invariant c.in-None.ensures.steps.0.1
+returns c = record { read = all_seen _ _ _ _ c.loop-i.invariant c.in-None.ensures.steps.0.1; refused = tt }
