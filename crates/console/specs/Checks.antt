@@ -3,9 +3,11 @@ use Rattle.std.specs.Prelude.{List, ℕ, Bool, true, false, Result, Ok, Err, ◌
 use Rattle.kinds.specs.declared.denial.Denial.{Denial}
 use Rattle.kinds.specs.Denials.{denial_text}
 
+-- a refusal
 abbrev pub refused_text : Denial → List ℕ
 refused_text why = codes "no " ++ denial_text why
 
+-- the answer of a check
 abbrev pub check_text : Result Bool Denial → List ℕ
 check_text (Ok true) = codes "accepted"
 check_text (Ok false) = codes "not accepted"

@@ -6,6 +6,7 @@ use Rattle.std.specs.List.{flat_map}
 abbrev pub further : List ℕ → List ℕ
 further = flat_map (λ next. codes " " ++ decimal next)
 
+-- words, the first without a space
 abbrev pub words_text : List ℕ → List ℕ
 words_text [] = []
 words_text (word ∷ rest) = decimal word ++ further rest

@@ -19,6 +19,7 @@ pub data Shown : Type 0 where
   zero_record : (second : Bool) → Shown
   nothing : Shown
 
+-- a clash of the program
 abbrev pub shown_by : Clash → Shown
 shown_by (clash.Pairs level) = pairs level
 shown_by clash.Records = records
@@ -36,6 +37,7 @@ same_claim None (Some ys) = false
 same_claim (Some xs) None = false
 same_claim (Some xs) (Some ys) = same xs ys
 
+-- both together: refusal 13 asks it
 abbrev pub alike : Option (List ℕ) → List ℕ → Option (List ℕ) → List ℕ → Bool
 alike claim1 path1 claim2 path2 = same_claim claim1 claim2 && same path1 path2
 
@@ -85,17 +87,21 @@ module _ (c w : ℕ) (F : List ℕ → List ℕ) where
   abbrev pub words_at : ℕ → Option (List ℕ) → List ℕ → ℕ → List ℕ
   words_at place claim path level = flat (pair_at c w F place (leaf c w F claim) path level)
 
+  -- what is shown of two openings that are both accepted and differ, and what the buffer then holds
   abbrev pub found : ℕ → ℕ → Option (List ℕ) → List ℕ → Option (List ℕ) → List ℕ → List ℕ → (Shown × List ℕ)
   found depth place claim1 path1 claim2 path2 out = shows (words_at place claim1 path1) (words_at place claim2 path2) claim1 claim2 out depth
 
+  -- refusals 11, 12, 13 of two openings under a root
   abbrev pub verdict : List ℕ → ℕ → ℕ → Option (List ℕ) → List ℕ → Option (List ℕ) → List ℕ → List Cause
   verdict root depth place claim1 path1 claim2 path2 =
       verdict_causes (reaches c w F root depth place claim1 path1) (reaches c w F root depth place claim2 path2) (alike claim1 path1 claim2 path2)
 
+  -- all refusals of the finder, in their order
   abbrev pub find_causes : List ℕ → ℕ → ℕ → Option (List ℕ) → List ℕ → Option (List ℕ) → List ℕ → List ℕ → List Cause
   find_causes root depth place claim1 path1 claim2 path2 out =
       handed_causes w root depth place claim1 path1 claim2 path2 out ++ verdict root depth place claim1 path1 claim2 path2
 
+  -- granted, or the first refusal that has its cause
   abbrev pub find_answer : List ℕ → ℕ → ℕ → Option (List ℕ) → List ℕ → Option (List ℕ) → List ℕ → List ℕ → Answer
   find_answer root depth place claim1 path1 claim2 path2 out = answer (find_causes root depth place claim1 path1 claim2 path2 out)
 

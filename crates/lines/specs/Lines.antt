@@ -14,6 +14,7 @@ over text bytes = text ++ drop (length text) bytes
 abbrev pub spaced : List ℕ → List ℕ
 spaced part = codes " " ++ part
 
+-- a first part, others after a space each, and a line feed
 unfoldable pub line : List ℕ → List (List ℕ) → List ℕ
 line first parts = first ++ flat_map spaced parts ++ codes "\n"
 
@@ -26,10 +27,10 @@ abbrev pub heading_word : Heading → List ℕ
 heading_word heading.Root = codes "root"
 heading_word heading.Path = codes "path"
 
--- the lines
-
+-- granted, with nothing to write
 abbrev pub ok_line : List ℕ
 ok_line = line (codes "ok") []
 
+-- a refusal: its number, its layer, and the offset of the command
 abbrev pub no_line : ℕ → Layer → ℕ → List ℕ
 no_line number layer offset = line (codes "no") (decimal number ∷ layer_word layer ∷ decimal offset ∷ [])

@@ -3,6 +3,7 @@ use Rattle.std.specs.Prelude.{◌≡◌, ℕ, zero, suc, ◌+◌, ◌-◌, ◌*�
 use Rattle.sponge.specs.Digests.{two_to_one}
 use Rattle.model.specs.Closed.{Closed}
 
+-- node i of a table
 abbrev pub node_at : List (List ℕ) → ℕ → List ℕ
 node_at ns i = slice_index_or ns i []
 

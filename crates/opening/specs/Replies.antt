@@ -5,7 +5,7 @@ use Rattle.kinds.specs.Answers.{Answer}
 use Rattle.kinds.specs.Denials.{told}
 use Rattle.openings.specs.Checks.{check_call, accepted}
 use Rattle.finder.specs.Findings.{Shown, shown, find_call}
-use Rattle.script.specs.Stages.{capacity, digest, mixing}
+use Rattle.script.specs.Stages.{capacity_size, digest_size, mixing}
 use Rattle.opening.specs.declared.question.Told.{Told}
 use Rattle.opening.specs.declared.question.Question.{Question}
 use Rattle.opening.specs.declared.said.Said.{Said}
@@ -34,4 +34,4 @@ module _ (c w : ℕ) (F : List ℕ → List ℕ) where
 
 -- at the kind that the question names
 abbrev pub reply : Question → Reply
-reply q = reply_with (capacity q.kind) (digest q.kind) (mixing q.kind) q q.second
+reply q = reply_with (capacity_size q.kind) (digest_size q.kind) (mixing q.kind) q q.second

@@ -18,6 +18,7 @@ abbrev pub check_causes : ℕ → List ℕ → ℕ → ℕ → Option (List ℕ)
 check_causes w root depth place claim path =
     too_deep depth ∷ no_place depth place ∷ bad_claim claim ∷ bad_buffer w root ∷ bad_buffer (depth * w) path ∷ not_elements (root ++ (words_of claim ++ path)) ∷ []
 
+-- granted, or the first refusal that has its cause
 abbrev pub check_answer : ℕ → List ℕ → ℕ → ℕ → Option (List ℕ) → List ℕ → Answer
 check_answer w root depth place claim path = answer (check_causes w root depth place claim path)
 

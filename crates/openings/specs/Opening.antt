@@ -36,6 +36,7 @@ part_at n level words = take n (drop (level * n) words)
 abbrev pub Pair : Type 0
 Pair = List ℕ × List ℕ
 
+-- a digest and its sibling as a pair
 abbrev pub paired : Bool → List ℕ → List ℕ → Pair
 paired right own sibling = cond right (sibling, own) (own, sibling)
 
@@ -44,6 +45,7 @@ abbrev pub flat : Pair → List ℕ
 flat p = p.0 ++ p.1
 
 module _ (c w : ℕ) (F : List ℕ → List ℕ) where
+  -- the two-to-one hash of a pair
   abbrev pub hash_of : Pair → List ℕ
   hash_of p = two_to_one c w F p.0 p.1
 

@@ -1,20 +1,20 @@
 -- Bytes and words that are read one by one.
 use Rattle.std.proofs.Common.{◌≡◌, ℕ, zero, suc, ◌+◌, ◌*◌, ◌<◌, List, length, get_or, refl, sym, ap, ◌∙◌, arith}
 use Rattle.std.proofs.lemmas.List.{get_or_default, same_lists}
-use Rattle.reader.specs.Numbers.{little, cut, words}
+use Rattle.reader.specs.Numbers.{little, bytes_from, words}
 
-pub length-cut : (bytes : List ℕ) (at n : ℕ) → length (cut bytes at n) ≡ n
-length-cut bytes at zero = refl
-length-cut bytes at (suc n) = ap suc (length-cut bytes (at + 1) n)
+pub length-bytes_from : (bytes : List ℕ) (at n : ℕ) → length (bytes_from bytes at n) ≡ n
+length-bytes_from bytes at zero = refl
+length-bytes_from bytes at (suc n) = ap suc (length-bytes_from bytes (at + 1) n)
 
-pub get_or-cut : (bytes : List ℕ) (at n k d : ℕ) → k < n → get_or (cut bytes at n) k d ≡ get_or bytes (at + k) 0
-get_or-cut bytes at zero k d h = absurd (omega arith)
-get_or-cut bytes at (suc n) zero d h = ap (λ i. get_or bytes i 0) (omega arith)
-get_or-cut bytes at (suc n) (suc k) d h = get_or-cut bytes (at + 1) n k d (omega arith) ∙ ap (λ i. get_or bytes i 0) (omega arith)
+pub get_or-bytes_from : (bytes : List ℕ) (at n k d : ℕ) → k < n → get_or (bytes_from bytes at n) k d ≡ get_or bytes (at + k) 0
+get_or-bytes_from bytes at zero k d h = absurd (omega arith)
+get_or-bytes_from bytes at (suc n) zero d h = ap (λ i. get_or bytes i 0) (omega arith)
+get_or-bytes_from bytes at (suc n) (suc k) d h = get_or-bytes_from bytes (at + 1) n k d (omega arith) ∙ ap (λ i. get_or bytes i 0) (omega arith)
 
 -- a list with those bytes is the part
-pub cut_is : (bytes xs : List ℕ) (at n : ℕ) → length xs ≡ n → ((k : ℕ) → k < n → get_or xs k 0 ≡ get_or bytes (at + k) 0) → xs ≡ cut bytes at n
-cut_is bytes xs at n len each = same_lists xs (cut bytes at n) (len ∙ sym (length-cut bytes at n)) (λ k d h. get_or_default xs k d 0 h ∙ each k (omega arith) ∙ sym (get_or-cut bytes at n k d (omega arith)))
+pub cut_is : (bytes xs : List ℕ) (at n : ℕ) → length xs ≡ n → ((k : ℕ) → k < n → get_or xs k 0 ≡ get_or bytes (at + k) 0) → xs ≡ bytes_from bytes at n
+cut_is bytes xs at n len each = same_lists xs (bytes_from bytes at n) (len ∙ sym (length-bytes_from bytes at n)) (λ k d h. get_or_default xs k d 0 h ∙ each k (omega arith) ∙ sym (get_or-bytes_from bytes at n k d (omega arith)))
 
 pub length-words : (bytes : List ℕ) (at n : ℕ) → length (words bytes at n) ≡ n
 length-words bytes at zero = refl

@@ -6,6 +6,7 @@ use Rattle.kinds.specs.Denials as lots
 use Rattle.reader.specs.declared.fault.ScriptFault.{ScriptFault}
 use Rattle.reader.specs.declared.fault.ScriptFault.TheVariants as fault
 
+-- 14 to 18 are the script's own; a denial of the lot keeps its number
 abbrev pub number_of : ScriptFault → ℕ
 number_of (fault.UnknownCommand at) = 14
 number_of (fault.CutShort at) = 15
@@ -14,6 +15,7 @@ number_of fault.TooLong = 17
 number_of (fault.UnknownKind at) = 18
 number_of (fault.Denied d) = lots.number_of d
 
+-- and its layer
 abbrev pub layer_of : ScriptFault → Layer
 layer_of (fault.UnknownCommand at) = layer.Script
 layer_of (fault.CutShort at) = layer.Script

@@ -7,6 +7,7 @@ use Rattle.reader.specs.declared.orders.Order.TheVariants as order
 use Rattle.reader.specs.Numbers.{little, eight}
 use Rattle.reader.specs.Commands.{Read}
 
+-- what a command asks for, by its verb and its operand bytes
 abbrev pub ordered : Verb → List ℕ → Order
 ordered verb.Start bytes = order.Start (little bytes 0 1) (little bytes 1 1)
 ordered verb.Begin bytes = order.Begin (little bytes 0 1) (little bytes 1 2) (little bytes 3 2)
@@ -19,5 +20,6 @@ ordered verb.Root bytes = order.Root
 ordered verb.Open bytes = order.Open (little bytes 0 2)
 ordered verb.Close bytes = order.Close
 
+-- the same of a command that was read
 abbrev pub order_of : Read → Order
 order_of r = ordered r.verb r.operands

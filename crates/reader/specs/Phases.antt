@@ -18,6 +18,7 @@ phases_of verb.Root = (false, true, true)
 phases_of verb.Open = (false, false, true)
 phases_of verb.Close = (false, true, false)
 
+-- whether a command may stand in a phase
 abbrev pub in_phase : Phase → Verb → Bool
 in_phase phase.Before v = (phases_of v).0
 in_phase phase.Filling v = (phases_of v).1

@@ -4,6 +4,7 @@ use Rattle.reader.specs.declared.verbs.Verb.{Verb}
 use Rattle.reader.specs.declared.verbs.Verb.TheVariants as verb
 use Rattle.reader.specs.declared.verbs.UnknownByte.{UnknownByte}
 
+-- the command of a byte, if it is one
 abbrev pub verb_of : ℕ → Option Verb
 verb_of byte =
     cond (byte == 0x01) (Some verb.Start)
@@ -21,6 +22,7 @@ verb_of byte =
 abbrev pub verb_in : ℕ → Result Verb UnknownByte
 verb_in byte = ok_or (verb_of byte) (record {})
 
+-- how many operand bytes follow it
 abbrev pub width_of : Verb → ℕ
 width_of verb.Start = 2
 width_of verb.Begin = 5

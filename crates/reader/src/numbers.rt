@@ -1,5 +1,5 @@
 ghost use Rattle.std.specs.Prelude.{◌≡◌, ◌+◌, ◌≤◌, slice_index};
-ghost use Rattle.reader.specs.Numbers.{little, eight, cut};
+ghost use Rattle.reader.specs.Numbers.{little, eight, bytes_from};
 
 use std::array;
 
@@ -11,10 +11,10 @@ pub fn byte_at(bytes: &[u8], at: usize) -> u8
     bytes.get(at).copied().unwrap_or(0)
 }
 
-// The bytes from a place on.
+// The bytes from an offset on.
 fn bytes_at<const N: usize>(bytes: &[u8], at: usize) -> [u8; N]
     requires { at + N ≤ 128 }
-    ensures { result ≡ cut bytes.now at N }
+    ensures { result ≡ bytes_from bytes.now at N }
 {
     array::from_fn(|i| byte_at(bytes, at + i))
 }

@@ -5,7 +5,7 @@ use crate::commands::{Command, Part};
 use crate::fault::ScriptFault;
 use crate::verbs::Verb;
 
-// The command that begins with the byte at a place of the script, and the place after it.
+// The command that begins with the byte at an offset of the script, and the offset after it.
 fn read_command<'a>(
     script: &'a [u8],
     at: usize,
@@ -23,7 +23,7 @@ fn read_command<'a>(
     Ok((command, at + 1 + operands.len()))
 }
 
-// The command at a place and the place after it; none where the script has no byte.
+// The command at an offset and the offset after it; none where the script has no byte.
 pub fn read_at<'a>(script: &'a [u8], at: usize) -> Option<Result<(Command<'a>, usize), ScriptFault>>
     ensures { all_told result ≡ read_at script.now at }
 {

@@ -11,12 +11,13 @@ use Rattle.reader.specs.Phases.{in_phase}
 use Rattle.turns.specs.Answers.{fault_line}
 use Rattle.script.specs.Stages.{Stage, before, ended, phase_in, act}
 
--- the script, the place of the next command, and how far the reading has come
+-- the script, the offset of the next command, and how far the reading has come
 pub record Run : Type 0 where
   pub script : List ℕ
   pub at : ℕ
   pub stage : Stage
 
+-- a run at the start of a script
 abbrev pub fresh : List ℕ → Run
 fresh script = record { script = script; at = 0; stage = before }
 
@@ -40,6 +41,7 @@ unfoldable pub turn : Run → Reading → Run × List ℕ
 turn r (Err f) = (record { script = r.script; at = r.at; stage = ended }, fault_line f r.at)
 turn r (Ok x) = (record { script = r.script; at = x.1; stage = (act r.stage (order_of x.0) r.at).0 }, (act r.stage (order_of x.0) r.at).1)
 
+-- what a call leaves that has room for a line, and what it answers: none, or how long the line is
 abbrev pub line_of : Run → List ℕ → Option Reading → Run × List ℕ × Result (Option ℕ) Denial
 line_of r out None = (r, out, Ok None)
 line_of r out (Some x) = ((turn r x).0, over (turn r x).1 out, Ok (Some (length (turn r x).1)))
@@ -53,6 +55,7 @@ abbrev pub left_by : Option Phase → ℕ → ℕ
 left_by None n = 0
 left_by (Some p) n = n + 1
 
+-- the same of a run
 abbrev pub left : Run → ℕ
 left r = left_by (phase_in r.stage) (length r.script - r.at)
 
@@ -61,6 +64,7 @@ pub record LinePromise (r s : Run) (n : ℕ) : Type 0 where
   pub short : n ≤ 1024
   pub falls : left s < left r
 
+-- what a call promises: with a line that, and with none nothing more
 abbrev pub Promised : Run → Run → Result (Option ℕ) Denial → Type 0
 Promised r s (Ok (Some n)) = LinePromise r s n
 Promised r s (Ok None) = Unit {0}

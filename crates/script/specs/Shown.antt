@@ -16,10 +16,12 @@ shown_kind (of.Drill l) = (kind.Drill, l)
 shown_kind (of.Rpo128 l) = (kind.Rpo128, l)
 shown_kind (of.Rpo160 l) = (kind.Rpo160, l)
 
+-- what a start gives
 abbrev pub shown_started : Result (OfKind Lot Lot Lot) ScriptFault → Result (KindName × Lot) ScriptFault
 shown_started (Ok l) = Ok (shown_kind l)
 shown_started (Err f) = Err f
 
+-- how far the reading has come; lots that wait for a start show nothing
 abbrev pub shown_stage : declared.Stage → Stage
 shown_stage (stage.Before lots) = before
 shown_stage (stage.Filling l) = filling (shown_kind l)

@@ -41,7 +41,7 @@ impl Waiting {
         })
     }
 
-    // The lot that the start at that place asks for.
+    // The lot that the start at that offset asks for.
     pub(crate) fn start(self, kind: u8, depth: u8, at: usize) -> Result<AnyLot, ScriptFault>
         ensures { shown_started result ≡ started kind depth at }
     {

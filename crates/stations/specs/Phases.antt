@@ -6,13 +6,15 @@ use Rattle.stations.specs.declared.phase.Phase.{Phase}
 use Rattle.stations.specs.declared.phase.Phase.TheVariants as phase
 use Rattle.stations.specs.declared.record.Record.{Record}
 
-abbrev pub in_hand : ℕ → ℕ → Record → Station
-in_hand c w r = busy r.place r.length r.got (held c w r.sponge)
+-- the model's station that has this record in hand
+abbrev pub busy_with : ℕ → ℕ → Record → Station
+busy_with c w r = busy r.place r.length r.got (held c w r.sponge)
 
+-- the model's station in a phase
 abbrev pub shown_in : ℕ → ℕ → Phase → Station
 shown_in c w phase.Idle = idle
-shown_in c w (phase.Filling r) = in_hand c w r
-shown_in c w (phase.Full r) = in_hand c w r
+shown_in c w (phase.Filling r) = busy_with c w r
+shown_in c w (phase.Full r) = busy_with c w r
 
 -- a record that is filling lacks elements, and a full one lacks none
 abbrev pub sound : Phase → Bool

@@ -20,7 +20,7 @@ use Rattle.model.specs.Lots.{Lot, newly_made}
 use Rattle.turns.specs.Answers.{fault_line}
 use Rattle.rpo_kinds.specs.Names.{name_of}
 use Rattle.rpo_kinds.specs.declared.names.KindName.{KindName}
-use Rattle.script.specs.Stages.{digest, new_lot, named_lot, started_as, started, Stage, before, filling, closed, ended, phase_in, start_with, act}
+use Rattle.script.specs.Stages.{digest_size, new_lot, named_lot, started_as, started, Stage, before, filling, closed, ended, phase_in, start_with, act}
 use Rattle.script.specs.Runs.{fresh, phased, next_in, next_command, turn}
 use Rattle.transcript.specs.Transcripts.{with_line, lines_from, transcript}
 use Rattle.transcript.specs.Commands.{Asked, phase_started, phase_behind, with_command, commands_from, commands}
@@ -40,10 +40,10 @@ stage_behind (first ∷ done) = stage_of (started_by first) done
 New : Result (KindName × Lot) ScriptFault → Type 0
 New r = (at : ℕ) → (start_with r at).0 ≡ stage_of r []
 
-new_named : (kind : KindName) (d : ℕ) → New (named_lot kind (new_lot (digest kind) d))
+new_named : (kind : KindName) (d : ℕ) → New (named_lot kind (new_lot (digest_size kind) d))
 unfolding New
 new_named kind d =
-    cond_both {A = Result Lot Denial} (ltb 8 d) (Err denial.DepthTooLarge) (Ok (newly_made (digest kind) d)) (λ r. New (named_lot kind r))
+    cond_both {A = Result Lot Denial} (ltb 8 d) (Err denial.DepthTooLarge) (Ok (newly_made (digest_size kind) d)) (λ r. New (named_lot kind r))
     (λ e at. refl)
     (λ e at. refl)
 

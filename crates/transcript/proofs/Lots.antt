@@ -15,7 +15,7 @@ use Rattle.model.specs.Calls.{Call, History}
 use Rattle.model.specs.Lots.{Lot, newly_made, step, run, lot_after}
 use Rattle.turns.specs.Turns.{filled}
 use Rattle.rpo_kinds.specs.declared.names.KindName.{KindName}
-use Rattle.script.specs.Stages.{capacity, digest, mixing, any_closed, Stage, filling, closed, phase_in, act}
+use Rattle.script.specs.Stages.{capacity_size, digest_size, mixing, any_closed, Stage, filling, closed, phase_in, act}
 use Rattle.transcript.specs.Commands.{Asked}
 use Rattle.transcript.specs.Lots.{is_close, closes, call_asked, calls_of, lot_behind, order_line}
 
@@ -72,18 +72,18 @@ made_stage kind depth xs = cond (closes xs) (closed (any_closed (kind, lot_behin
 
 module _ (kind : KindName) (depth : ℕ) (xs : List Asked) where
   lot_goes : (a : Asked) → closes xs ≡ false →
-      lot_behind kind depth (xs ++ a ∷ []) ≡ (run (capacity kind) (digest kind) (mixing kind) (run (capacity kind) (digest kind) (mixing kind) (newly_made (digest kind) depth, []) (calls_of (digest kind) xs)) (calls_of (digest kind) (a ∷ []))).0
+      lot_behind kind depth (xs ++ a ∷ []) ≡ (run (capacity_size kind) (digest_size kind) (mixing kind) (run (capacity_size kind) (digest_size kind) (mixing kind) (newly_made (digest_size kind) depth, []) (calls_of (digest_size kind) xs)) (calls_of (digest_size kind) (a ∷ []))).0
   lot_goes a e =
-      let c = capacity kind in
-      let w = digest kind in
+      let c = capacity_size kind in
+      let w = digest_size kind in
       let F = mixing kind in
       ap (λ ks. lot_after c w F depth ks) (calls_go w xs a e) ∙ ap (λ (x : Lot × History). x.0) (run_append c w F (newly_made w depth, []) (calls_of w xs) (calls_of w (a ∷ [])))
 
   lot_stays : (a : Asked) → closes xs ≡ true → lot_behind kind depth (xs ++ a ∷ []) ≡ lot_behind kind depth xs
-  lot_stays a e = ap (λ ks. lot_after (capacity kind) (digest kind) (mixing kind) depth ks) (calls_stay (digest kind) xs a e)
+  lot_stays a e = ap (λ ks. lot_after (capacity_size kind) (digest_size kind) (mixing kind) depth ks) (calls_stay (digest_size kind) xs a e)
 
   lot_filled : (o : Order) (at : ℕ) → closes xs ≡ false →
-      (filled (capacity kind) (digest kind) (mixing kind) (lot_behind kind depth xs) o at).0 ≡ lot_behind kind depth (xs ++ (Ok o, at) ∷ [])
+      (filled (capacity_size kind) (digest_size kind) (mixing kind) (lot_behind kind depth xs) o at).0 ≡ lot_behind kind depth (xs ++ (Ok o, at) ∷ [])
   unfolding filled
   lot_filled order.Root at e = sym (lot_goes (Ok order.Root, at) e ∙ either_way _ (lot_behind kind depth xs))
   lot_filled o at e = sym (lot_goes (Ok o, at) e)
@@ -93,7 +93,7 @@ module _ (kind : KindName) (depth : ℕ) (xs : List Asked) where
   Acted s o at = ◌≡◌ {A = Stage × List ℕ} (act s o at) (made_stage kind depth (xs ++ (Ok o, at) ∷ []), order_line kind depth xs o at)
 
   run_filling : (o : Order) (at : ℕ) → closes xs ≡ false → is_close (Ok o) ≡ false →
-      ◌≡◌ {A = Stage} (filling (kind, (filled (capacity kind) (digest kind) (mixing kind) (lot_behind kind depth xs) o at).0)) (made_stage kind depth (xs ++ (Ok o, at) ∷ []))
+      ◌≡◌ {A = Stage} (filling (kind, (filled (capacity_size kind) (digest_size kind) (mixing kind) (lot_behind kind depth xs) o at).0)) (made_stage kind depth (xs ++ (Ok o, at) ∷ []))
   run_filling o at e n = rw (closes_goes xs (Ok o, at) e, n, lot_filled o at e) refl
 
   stage_closes : (at : ℕ) → closes xs ≡ false →

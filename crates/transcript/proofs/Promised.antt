@@ -30,7 +30,7 @@ use Rattle.rpo_kinds.specs.Names.{name_of}
 use Rattle.rpo_kinds.specs.declared.names.KindName.{KindName}
 use Rattle.turns.specs.Answers.{numbers_told}
 use Rattle.turns.specs.Turns.{filled, asked}
-use Rattle.script.specs.Stages.{capacity, digest, mixing, new_lot, named_lot, started_as}
+use Rattle.script.specs.Stages.{capacity_size, digest_size, mixing, new_lot, named_lot, started_as}
 use Rattle.transcript.specs.Commands.{Asked}
 use Rattle.transcript.specs.Lots.{call_of, is_close, closes, call_asked, calls_of, lot_behind, order_line, started_by}
 use Rattle.transcript.specs.Promised.{call_line, history_behind, call_told, leaves_told, root_told, path_told, LinesTold, SameRecords, LinesAlike}
@@ -40,9 +40,9 @@ use Rattle.transcript.specs.Promised.{call_line, history_behind, call_told, leav
 abbrev Shallow : Result (KindName × Lot) ScriptFault → Type 0
 Shallow r = IfOk r (λ l. l.1.depth ≤ 8)
 
-named_shallow : (kind : KindName) (d : ℕ) → Shallow (named_lot kind (new_lot (digest kind) d))
+named_shallow : (kind : KindName) (d : ℕ) → Shallow (named_lot kind (new_lot (digest_size kind) d))
 named_shallow kind d =
-    cond_both {A = Result Lot Denial} (ltb 8 d) (Err denial.DepthTooLarge) (Ok (newly_made (digest kind) d)) (λ r. Shallow (named_lot kind r)) (λ e. tt)
+    cond_both {A = Result Lot Denial} (ltb 8 d) (Err denial.DepthTooLarge) (Ok (newly_made (digest_size kind) d)) (λ r. Shallow (named_lot kind r)) (λ e. tt)
     (λ e. ltb-false 8 d e)
 
 started_shallow : (name : Option KindName) (d at : ℕ) → Shallow (started_as name d at)
@@ -93,7 +93,7 @@ granted_words h (denied n vs) xs ys at = refl
 
 -- the tree value of a lot
 abbrev root_of_lot : KindName → Lot → List ℕ
-root_of_lot kind l = tree_value (capacity kind) (digest kind) (mixing kind) l.depth (leaf_at (digest kind) l.leaves)
+root_of_lot kind l = tree_value (capacity_size kind) (digest_size kind) (mixing kind) l.depth (leaf_at (digest_size kind) l.leaves)
 
 -- root's line, by the lot
 root_by_lot : (kind : KindName) (depth : ℕ) (xs : List Asked) (at : ℕ) →
@@ -101,33 +101,33 @@ root_by_lot : (kind : KindName) (depth : ℕ) (xs : List Asked) (at : ℕ) →
 unfolding filled asked
 root_by_lot kind depth xs at = by_close (closes xs) refl
   where
-    granted_root : (ns : List ℕ) → ns ≡ if_granted (answer (bad_buffer (digest kind) (replicate (digest kind) 0) ∷ [])) (root_of_lot kind (lot_behind kind depth xs)) (replicate (digest kind) 0)
-        → numbers_told heading.Root (answer (bad_buffer (digest kind) (replicate (digest kind) 0) ∷ []), ns) at ≡ numbers_line (heading_word heading.Root) (root_of_lot kind (lot_behind kind depth xs))
-    granted_root ns e = rw (e, fits (digest kind)) refl
+    granted_root : (ns : List ℕ) → ns ≡ if_granted (answer (bad_buffer (digest_size kind) (replicate (digest_size kind) 0) ∷ [])) (root_of_lot kind (lot_behind kind depth xs)) (replicate (digest_size kind) 0)
+        → numbers_told heading.Root (answer (bad_buffer (digest_size kind) (replicate (digest_size kind) 0) ∷ []), ns) at ≡ numbers_line (heading_word heading.Root) (root_of_lot kind (lot_behind kind depth xs))
+    granted_root ns e = rw (e, fits (digest_size kind)) refl
 
     by_close : (t : Bool) → closes xs ≡ t → order_line kind depth xs order.Root at ≡ numbers_line (heading_word heading.Root) (root_of_lot kind (lot_behind kind depth xs))
-    by_close true e = rw e (granted_root _ ((closed_laws (capacity kind) (digest kind) (mixing kind)).root_written (lot_behind kind depth xs) (replicate (digest kind) 0)))
+    by_close true e = rw e (granted_root _ ((closed_laws (capacity_size kind) (digest_size kind) (mixing kind)).root_written (lot_behind kind depth xs) (replicate (digest_size kind) 0)))
     by_close false e = rw e (granted_root _ refl)
 
 -- open's answer, where its buffer fits
 open_answered : (w depth place : ℕ) → open_answer w depth place (replicate (depth * w) 0) ≡ answer (no_place depth place ∷ [])
 open_answered w depth place = ap (λ (a : Answer). cond (leb (2 ^ depth) place) (denied 3 []) a) (fits (depth * w))
 
-module _ (kind : KindName) (depth : ℕ) (small : depth ≤ 8) (laws : LotLaws (capacity kind) (digest kind) (mixing kind)) (promised : Promises (capacity kind) (digest kind) (mixing kind)) (xs : List Asked) where
+module _ (kind : KindName) (depth : ℕ) (small : depth ≤ 8) (laws : LotLaws (capacity_size kind) (digest_size kind) (mixing kind)) (promised : Promises (capacity_size kind) (digest_size kind) (mixing kind)) (xs : List Asked) where
   deep : (lot_behind kind depth xs).depth ≡ depth
-  deep = run_depth (capacity kind) (digest kind) (mixing kind) (calls_of (digest kind) xs) (newly_made (digest kind) depth, []) (none_made (digest kind) xs)
+  deep = run_depth (capacity_size kind) (digest_size kind) (mixing kind) (calls_of (digest_size kind) xs) (newly_made (digest_size kind) depth, []) (none_made (digest_size kind) xs)
 
-  leaves_kept : leaf_at (digest kind) (lot_behind kind depth xs).leaves ≡ leaves_told kind depth xs
-  leaves_kept = fun_ext (laws.keeps_last_records depth (calls_of (digest kind) xs) small).leaf_kept
+  leaves_kept : leaf_at (digest_size kind) (lot_behind kind depth xs).leaves ≡ leaves_told kind depth xs
+  leaves_kept = fun_ext (laws.keeps_last_records depth (calls_of (digest_size kind) xs) small).leaf_kept
 
   root_kept : root_of_lot kind (lot_behind kind depth xs) ≡ root_told kind depth xs
-  root_kept = ap₂ (λ (d : ℕ) (ls : ℕ → List ℕ). tree_value (capacity kind) (digest kind) (mixing kind) d ls) deep leaves_kept
+  root_kept = ap₂ (λ (d : ℕ) (ls : ℕ → List ℕ). tree_value (capacity_size kind) (digest_size kind) (mixing kind) d ls) deep leaves_kept
 
   open_line : (place at : ℕ) → closes xs ≡ true → order_line kind depth xs (order.Open place) at ≡ numbers_told heading.Path (path_told kind depth xs place) at
   unfolding asked
   open_line place at e =
-      let c = capacity kind in
-      let w = digest kind in
+      let c = capacity_size kind in
+      let w = digest_size kind in
       let F = mixing kind in
       let l = lot_behind kind depth xs in
       let room = replicate (l.depth * w) 0 in
@@ -140,10 +140,10 @@ module _ (kind : KindName) (depth : ℕ) (small : depth ≤ 8) (laws : LotLaws (
       ∙ ap₂ (λ (d : ℕ) (ls : ℕ → List ℕ). numbers_told heading.Path (answer (no_place d place ∷ []), path_of c w F d ls place) at) deep leaves_kept)
 
   accepted : (place : ℕ) → place < 2 ^ depth →
-      ◌≡◌ {A = Answer × Bool} (check_call (capacity kind) (digest kind) (mixing kind) (root_told kind depth xs) depth place (last_record (history_behind kind depth xs) place) (path_told kind depth xs place).1) (granted, true)
+      ◌≡◌ {A = Answer × Bool} (check_call (capacity_size kind) (digest_size kind) (mixing kind) (root_told kind depth xs) depth place (last_record (history_behind kind depth xs) place) (path_told kind depth xs place).1) (granted, true)
   accepted place low =
-      let c = capacity kind in
-      let w = digest kind in
+      let c = capacity_size kind in
+      let w = digest_size kind in
       let F = mixing kind in
       let l = lot_behind kind depth xs in
       let top = replicate w 0 in
@@ -162,20 +162,20 @@ module _ (kind : KindName) (depth : ℕ) (small : depth ≤ 8) (laws : LotLaws (
       ∙ opens.accepted
 
   -- the answer to a call, and its words
-  told_of : (k : Call) → ◌≡◌ {A = Answer × List ℕ} ((step (capacity kind) (digest kind) (mixing kind) (lot_behind kind depth xs) k).1, (step (capacity kind) (digest kind) (mixing kind) (lot_behind kind depth xs) k).2) (call_told kind depth xs k)
+  told_of : (k : Call) → ◌≡◌ {A = Answer × List ℕ} ((step (capacity_size kind) (digest_size kind) (mixing kind) (lot_behind kind depth xs) k).1, (step (capacity_size kind) (digest_size kind) (mixing kind) (lot_behind kind depth xs) k).2) (call_told kind depth xs k)
   told_of k =
-      let told = laws.answers_told depth (calls_of (digest kind) xs) small k in
+      let told = laws.answers_told depth (calls_of (digest_size kind) xs) small k in
       ap₂ (λ (a : Answer) (ns : List ℕ). (a, ns)) told.0 told.1
 
   -- the line of the answer to a call that is asked for
   line_of : (o : Order) (at : ℕ) (j k : Call) → j ∷ [] ≡ k ∷ [] →
-      call_line o ((step (capacity kind) (digest kind) (mixing kind) (lot_behind kind depth xs) j).1, (step (capacity kind) (digest kind) (mixing kind) (lot_behind kind depth xs) j).2) at ≡ call_line o (call_told kind depth xs k) at
+      call_line o ((step (capacity_size kind) (digest_size kind) (mixing kind) (lot_behind kind depth xs) j).1, (step (capacity_size kind) (digest_size kind) (mixing kind) (lot_behind kind depth xs) j).2) at ≡ call_line o (call_told kind depth xs k) at
   line_of o at j k e =
       let is : j ≡ k = cc e in
       ap (λ (x : Answer × List ℕ). call_line o x at) (told_of j ∙ ap (call_told kind depth xs) is)
 
-  call_line_told : (o : Order) (k : Call) (at : ℕ) → call_of (digest kind) o ≡ k ∷ []
-      → (filled (capacity kind) (digest kind) (mixing kind) (lot_behind kind depth xs) o at).1 ≡ call_line o (call_told kind depth xs k) at
+  call_line_told : (o : Order) (k : Call) (at : ℕ) → call_of (digest_size kind) o ≡ k ∷ []
+      → (filled (capacity_size kind) (digest_size kind) (mixing kind) (lot_behind kind depth xs) o at).1 ≡ call_line o (call_told kind depth xs k) at
   unfolding filled
   call_line_told (order.Begin s p n) k at e = line_of (order.Begin s p n) at (begin s p n) k e
   call_line_told (order.Feed s x) k at e = line_of (order.Feed s x) at (feed s x) k e
@@ -183,10 +183,10 @@ module _ (kind : KindName) (depth : ℕ) (small : depth ≤ 8) (laws : LotLaws (
   call_line_told (order.Seal s) k at e = line_of (order.Seal s) at (seal s) k e
   call_line_told (order.Abandon s) k at e = line_of (order.Abandon s) at (abandon s) k e
   call_line_told (order.Clear p) k at e = line_of (order.Clear p) at (clear p) k e
-  call_line_told order.Root k at e = line_of order.Root at (root (replicate (digest kind) 0)) k e
+  call_line_told order.Root k at e = line_of order.Root at (root (replicate (digest_size kind) 0)) k e
   call_line_told o k at e = absurd cc
 
-  call_lines : (o : Order) (k : Call) (at : ℕ) → closes xs ≡ false → call_of (digest kind) o ≡ k ∷ [] → order_line kind depth xs o at ≡ call_line o (call_told kind depth xs k) at
+  call_lines : (o : Order) (k : Call) (at : ℕ) → closes xs ≡ false → call_of (digest_size kind) o ≡ k ∷ [] → order_line kind depth xs o at ≡ call_line o (call_told kind depth xs k) at
   call_lines order.Close k at e asks = absurd cc
   call_lines o k at e asks = rw e (call_line_told o k at asks)
 
@@ -198,30 +198,30 @@ module _ (kind : KindName) (depth : ℕ) (small : depth ≤ 8) (laws : LotLaws (
     accepted = accepted;
   }
 
-module _ (kind : KindName) (depth : ℕ) (small : depth ≤ 8) (promised : Promises (capacity kind) (digest kind) (mixing kind)) (one other : List Asked) (same : SameRecords kind depth one other) where
-  both_alike : Alike (capacity kind) (digest kind) (mixing kind) (lot_behind kind depth one) (lot_behind kind depth other)
-  both_alike = promised.order depth (calls_of (digest kind) one) (calls_of (digest kind) other) small (none_made (digest kind) one) (none_made (digest kind) other) same
+module _ (kind : KindName) (depth : ℕ) (small : depth ≤ 8) (promised : Promises (capacity_size kind) (digest_size kind) (mixing kind)) (one other : List Asked) (same : SameRecords kind depth one other) where
+  both_alike : Alike (capacity_size kind) (digest_size kind) (mixing kind) (lot_behind kind depth one) (lot_behind kind depth other)
+  both_alike = promised.order depth (calls_of (digest_size kind) one) (calls_of (digest_size kind) other) small (none_made (digest_size kind) one) (none_made (digest_size kind) other) same
 
   same_value : root_of_lot kind (lot_behind kind depth one) ≡ root_of_lot kind (lot_behind kind depth other)
   same_value =
       let l = lot_behind kind depth one in
       let m = lot_behind kind depth other in
-      let room = replicate (digest kind) 0 in
-      let left : if_granted (answer (bad_buffer (digest kind) room ∷ [])) (root_of_lot kind l) room ≡ if_granted (answer (bad_buffer (digest kind) room ∷ [])) (root_of_lot kind m) room = both_alike.roots_left room in
-      rw (fits (digest kind)) at left
+      let room = replicate (digest_size kind) 0 in
+      let left : if_granted (answer (bad_buffer (digest_size kind) room ∷ [])) (root_of_lot kind l) room ≡ if_granted (answer (bad_buffer (digest_size kind) room ∷ [])) (root_of_lot kind m) room = both_alike.roots_left room in
+      rw (fits (digest_size kind)) at left
 
   same_path : (place at : ℕ) → closes one ≡ true → closes other ≡ true → order_line kind depth one (order.Open place) at ≡ order_line kind depth other (order.Open place) at
   unfolding asked
   same_path place at e e' =
-      let w = digest kind in
+      let w = digest_size kind in
       let F = mixing kind in
       let l = lot_behind kind depth one in
       let m = lot_behind kind depth other in
-      let deep = run_depth (capacity kind) w F (calls_of w one) (newly_made w depth, []) (none_made w one) in
-      let deep' = run_depth (capacity kind) w F (calls_of w other) (newly_made w depth, []) (none_made w other) in
+      let deep = run_depth (capacity_size kind) w F (calls_of w one) (newly_made w depth, []) (none_made w one) in
+      let deep' = run_depth (capacity_size kind) w F (calls_of w other) (newly_made w depth, []) (none_made w other) in
       rw (e, e')
       (ap (λ (x : Answer × List ℕ). numbers_told heading.Path x at) (both_alike.openings place (replicate (l.depth * w) 0))
-      ∙ ap (λ (d : ℕ). numbers_told heading.Path (open_call w (model.closed (capacity kind) w F m) place (replicate (d * w) 0)) at) (deep ∙ sym deep'))
+      ∙ ap (λ (d : ℕ). numbers_told heading.Path (open_call w (model.closed (capacity_size kind) w F m) place (replicate (d * w) 0)) at) (deep ∙ sym deep'))
 
   pub lines_alike : LinesAlike kind depth one other
   lines_alike = record {

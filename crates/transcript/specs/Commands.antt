@@ -22,6 +22,7 @@ abbrev pub phase_started : Result (KindName × Lot) ScriptFault → Option Phase
 phase_started (Ok l) = Some phase.Filling
 phase_started (Err f) = None
 
+-- the phase behind a command that was in its phase
 abbrev pub phase_behind : Phase → Order → ℕ → Option Phase
 phase_behind p (order.Start kind depth) at = phase_started (started kind depth at)
 phase_behind p order.Close at = Some phase.Closed
@@ -33,7 +34,7 @@ with_command None at rest = []
 with_command (Some (Err f)) at rest = (Err f, at) ∷ []
 with_command (Some (Ok x)) at rest = (Ok (order_of x.0), at) ∷ rest (order_of x.0) x.1
 
--- the commands from a place on, at most n of them, in a phase
+-- the commands from an offset on, at most n of them, in a phase
 abbrev pub commands_from : List ℕ → ℕ → Option Phase → ℕ → List Asked
 commands_from script zero p at = []
 commands_from script (suc n) None at = []

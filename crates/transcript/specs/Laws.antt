@@ -11,6 +11,7 @@ use Rattle.script.specs.Stages.{Stage, before, phase_in, started, act}
 use Rattle.script.specs.Runs.{Run, turn, next_line}
 use Rattle.transcript.specs.Commands.{phase_behind}
 
+-- what ends a reading, and what does not
 pub record ReadingLaws : Type 0 where
   -- a buffer that is too short is denied, and nothing is run
   pub short_keeps : (r : Run) (out : List ℕ) → length out < 1024 → next_line r out ≡ (r, out, Err denial.BadBuffer)

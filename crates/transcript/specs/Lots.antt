@@ -12,7 +12,7 @@ use Rattle.model.specs.Closed.{closed}
 use Rattle.rpo_kinds.specs.declared.names.KindName.{KindName}
 use Rattle.turns.specs.Answers.{fault_line}
 use Rattle.turns.specs.Turns.{filled, asked}
-use Rattle.script.specs.Stages.{capacity, digest, mixing, started, start_with}
+use Rattle.script.specs.Stages.{capacity_size, digest_size, mixing, started, start_with}
 use Rattle.transcript.specs.Transcripts.{transcript}
 use Rattle.transcript.specs.Commands.{Asked, commands}
 
@@ -27,14 +27,17 @@ call_of w (order.Clear p) = clear p ∷ []
 call_of w order.Root = root (replicate w 0) ∷ []
 call_of w o = []
 
+-- whether it is a close
 abbrev pub is_close : Result Order ScriptFault → Bool
 is_close (Ok order.Close) = true
 is_close o = false
 
+-- whether a close is among them
 abbrev pub closes : List Asked → Bool
 closes [] = false
 closes (a ∷ more) = cond (is_close a.0) true (closes more)
 
+-- the same of a command or a fault; a fault asks for none
 abbrev pub call_asked : ℕ → Result Order ScriptFault → List Call
 call_asked w (Ok o) = call_of w o
 call_asked w (Err f) = []
@@ -47,14 +50,14 @@ calls_of w (a ∷ more) = cond (is_close a.0) [] (call_asked w a.0 ++ calls_of w
 module _ (kind : KindName) (depth : ℕ) where
   -- the lot behind commands: what the run of their calls leaves of a lot newly made
   abbrev pub lot_behind : List Asked → Lot
-  lot_behind before = lot_after (capacity kind) (digest kind) (mixing kind) depth (calls_of (digest kind) before)
+  lot_behind before = lot_after (capacity_size kind) (digest_size kind) (mixing kind) depth (calls_of (digest_size kind) before)
 
   -- the line of the command behind them: the answer of its call to that lot, or to that lot closed
   abbrev pub order_line : List Asked → Order → ℕ → List ℕ
   order_line before order.Close at = ok_line
   order_line before o at =
-      cond (closes before) (asked (digest kind) (closed (capacity kind) (digest kind) (mixing kind) (lot_behind before)) o at)
-      (filled (capacity kind) (digest kind) (mixing kind) (lot_behind before) o at).1
+      cond (closes before) (asked (digest_size kind) (closed (capacity_size kind) (digest_size kind) (mixing kind) (lot_behind before)) o at)
+      (filled (capacity_size kind) (digest_size kind) (mixing kind) (lot_behind before) o at).1
 
 -- the lot that the first command makes, or the fault in its place
 abbrev pub started_by : Asked → Result (KindName × Lot) ScriptFault
@@ -68,6 +71,7 @@ lot_line (Err f) before a = fault_line f a.1
 lot_line (Ok l) before (Err f, at) = fault_line f at
 lot_line (Ok l) before (Ok o, at) = order_line l.0 l.1.depth before o at
 
+-- the line of a command behind others; the first is to be a start
 abbrev pub line_behind : List Asked → Asked → List ℕ
 line_behind [] a = (start_with (started_by a) a.1).1
 line_behind (first ∷ before) a = lot_line (started_by first) before a

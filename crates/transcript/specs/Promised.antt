@@ -13,7 +13,7 @@ use Rattle.model.specs.Bench.{bench_of, bench_answer, bench_buffer}
 use Rattle.openings.specs.Checks.{check_call}
 use Rattle.rpo_kinds.specs.declared.names.KindName.{KindName}
 use Rattle.turns.specs.Answers.{answer_line, numbers_told}
-use Rattle.script.specs.Stages.{capacity, digest, mixing}
+use Rattle.script.specs.Stages.{capacity_size, digest_size, mixing}
 use Rattle.transcript.specs.Commands.{Asked}
 use Rattle.transcript.specs.Lots.{call_of, closes, calls_of, order_line, started_by}
 
@@ -26,36 +26,40 @@ call_line o x at = answer_line x.0 ok_line at
 module _ (kind : KindName) (depth : ℕ) where
   -- the calls that commands ask for, with their answers
   abbrev pub history_behind : List Asked → History
-  history_behind before = history_of (capacity kind) (digest kind) (mixing kind) depth (calls_of (digest kind) before)
+  history_behind before = history_of (capacity_size kind) (digest_size kind) (mixing kind) depth (calls_of (digest_size kind) before)
 
   -- what they alone tell: the answer to a call, with what it leaves in its buffer, and the leaf of the last record of each place
   abbrev pub call_told : List Asked → Call → Answer × List ℕ
   call_told before k =
       let bench = bench_of depth (history_behind before) in
-      (bench_answer (capacity kind) (digest kind) (mixing kind) bench k, bench_buffer (capacity kind) (digest kind) (mixing kind) bench k)
+      (bench_answer (capacity_size kind) (digest_size kind) (mixing kind) bench k, bench_buffer (capacity_size kind) (digest_size kind) (mixing kind) bench k)
 
+  -- the leaf of the last record of each place
   abbrev pub leaves_told : List Asked → ℕ → List ℕ
-  leaves_told before place = leaf (capacity kind) (digest kind) (mixing kind) (last_record (history_behind before) place)
+  leaves_told before place = leaf (capacity_size kind) (digest_size kind) (mixing kind) (last_record (history_behind before) place)
 
+  -- the tree value of these leaves
   abbrev pub root_told : List Asked → List ℕ
-  root_told before = tree_value (capacity kind) (digest kind) (mixing kind) depth (leaves_told before)
+  root_told before = tree_value (capacity_size kind) (digest_size kind) (mixing kind) depth (leaves_told before)
 
+  -- whether there is such a place, and its path
   abbrev pub path_told : List Asked → ℕ → Answer × List ℕ
   path_told before place =
-      (answer (no_place depth place ∷ []), path_of (capacity kind) (digest kind) (mixing kind) depth (leaves_told before) place)
+      (answer (no_place depth place ∷ []), path_of (capacity_size kind) (digest_size kind) (mixing kind) depth (leaves_told before) place)
 
   -- the lines behind these commands
   pub record LinesTold (before : List Asked) : Type 0 where
     -- until the close, that of each call is told by the calls and answers before
-    pub call_lines : (o : Order) (k : Call) (at : ℕ) → closes before ≡ false → call_of (digest kind) o ≡ k ∷ [] → order_line kind depth before o at ≡ call_line o (call_told before k) at
+    pub call_lines : (o : Order) (k : Call) (at : ℕ) → closes before ≡ false → call_of (digest_size kind) o ≡ k ∷ [] → order_line kind depth before o at ≡ call_line o (call_told before k) at
     -- until the close and behind it, root prints the tree value of the last records
     pub root_line : (at : ℕ) → order_line kind depth before order.Root at ≡ numbers_line (heading_word heading.Root) (root_told before)
     -- behind it, open prints the path of a place in their tree, unless there is no such place
     pub open_line : (place at : ℕ) → closes before ≡ true → order_line kind depth before (order.Open place) at ≡ numbers_told heading.Path (path_told before place) at
     -- and under that root the check accepts that path, with the last record of the place, or nothing, as the claim
     pub accepted : (place : ℕ) → place < 2 ^ depth →
-        ◌≡◌ {A = Answer × Bool} (check_call (capacity kind) (digest kind) (mixing kind) (root_told before) depth place (last_record (history_behind before) place) (path_told before place).1) (granted, true)
+        ◌≡◌ {A = Answer × Bool} (check_call (capacity_size kind) (digest_size kind) (mixing kind) (root_told before) depth place (last_record (history_behind before) place) (path_told before place).1) (granted, true)
 
+  -- the same last record at each place
   abbrev pub SameRecords : List Asked → List Asked → Type 0
   SameRecords one other = (place : ℕ) → place < 2 ^ depth → last_record (history_behind one) place ≡ last_record (history_behind other) place
 

@@ -17,6 +17,7 @@ layers =
     layer.Lot ∷ layer.Lot ∷ layer.Station ∷ layer.Lot ∷ layer.Station ∷ layer.Station ∷ layer.Station ∷ layer.Word ∷ layer.Station ∷ layer.Station ∷ layer.Lot
     ∷ layer.Finder ∷ layer.Finder ∷ layer.Finder ∷ []
 
+-- the line of a refusal of the lot, by its number
 abbrev pub denied_line : ℕ → ℕ → List ℕ
 denied_line n at = no_line n (slice_index_or layers n layer.Lot) at
 
@@ -30,6 +31,7 @@ abbrev pub offset_of : ScriptFault → ℕ → ℕ
 offset_of (fault.Denied d) at = at
 offset_of f at = slice_index_or (values_of f) 0 at
 
+-- the line of a fault, with its own offset or that of the command
 abbrev pub fault_line : ScriptFault → ℕ → List ℕ
 fault_line f at = no_line (number_of f) (layer_of f) (offset_of f at)
 

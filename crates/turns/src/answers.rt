@@ -10,7 +10,7 @@ use reader::fault::ScriptFault;
 // A line of a transcript. None has more bytes.
 pub type ScriptLine = Line<1024>;
 
-// The offset in the line of a fault of the command at that place.
+// The offset in the line of a fault of the command at that offset.
 fn offset_of(fault: ScriptFault, at: usize) -> usize
     ensures { result ≡ offset_of fault at }
 {

@@ -1,6 +1,6 @@
 ghost use Rattle.std.specs.Prelude.{◌≡◌, ℕ, true};
 ghost use Rattle.kinds.specs.Denials.{told};
-ghost use Rattle.stations.specs.Phases.{sound, in_hand, shown_in};
+ghost use Rattle.stations.specs.Phases.{sound, busy_with, shown_in};
 ghost use Rattle.stations.specs.Machine.{feed_step};
 
 use crate::phase::Phase;
@@ -12,7 +12,7 @@ use kinds::words::admit;
 impl Record {
     // Takes all of the words or none.
     pub(crate) fn feed<K: Kind>(&mut self, kind: &K, words: &[u64]) -> Result<(), Denial>
-        ensures { (in_hand K.CAPACITY K.DIGEST self.new, told result) ≡ feed_step K.CAPACITY K.DIGEST K.mapping words.now (in_hand K.CAPACITY K.DIGEST self.old) }
+        ensures { (busy_with K.CAPACITY K.DIGEST self.new, told result) ≡ feed_step K.CAPACITY K.DIGEST K.mapping words.now (busy_with K.CAPACITY K.DIGEST self.old) }
     {
         admit(0, words)?;
         if self.length - self.got < words.len() {
@@ -26,7 +26,7 @@ impl Record {
     // The phase of a station that has it in hand.
     pub(crate) fn phase(self) -> Phase
         ensures sound { sound result ≡ true }
-        ensures shows { (c w : ℕ) → shown_in c w result ≡ in_hand c w self }
+        ensures shows { (c w : ℕ) → shown_in c w result ≡ busy_with c w self }
     {
         if self.got < self.length {
             Phase::Filling(self)
