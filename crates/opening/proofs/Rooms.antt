@@ -1,5 +1,5 @@
 -- What a search leaves in the room of its buffer.
-use Rattle.std.proofs.Common.{◌≡◌, ℕ, ◌*◌, ◌≤◌, List, ◌++◌, length, take, drop, replicate, ap, sym, subst, ◌∙◌, arith}
+use Rattle.std.proofs.Common.{◌≡◌, ℕ, ◌*◌, ◌≤◌, List, ◌++◌, length, take, drop, replicate, ap, ◌∙◌, arith}
 use Rattle.std.proofs.lemmas.List.{take-replicate, take_at, length-take-le}
 use Rattle.kinds.specs.Answers.{Answer}
 use Rattle.kinds.specs.Kinds.{Sound}
