@@ -11,11 +11,11 @@ use Rattle.reader.specs.declared.fault.ScriptFault.{ScriptFault}
 use Rattle.reader.specs.declared.fault.ScriptFault.TheVariants as fault
 use Rattle.reader.specs.Faults.{number_of, layer_of, values_of}
 
--- the layers of the refusals of a lot, by their numbers from 0 on
+-- the layers of the refusals by their numbers; there is no 0
 abbrev pub layers : List Layer
 layers =
     layer.Lot ∷ layer.Lot ∷ layer.Station ∷ layer.Lot ∷ layer.Station ∷ layer.Station ∷ layer.Station ∷ layer.Word ∷ layer.Station ∷ layer.Station ∷ layer.Lot
-    ∷ layer.Finder ∷ layer.Finder ∷ layer.Finder ∷ []
+    ∷ layer.Finder ∷ layer.Finder ∷ layer.Finder ∷ layer.Script ∷ layer.Script ∷ layer.Script ∷ layer.Script ∷ layer.Script ∷ []
 
 -- the line of a refusal of the lot, by its number
 abbrev pub denied_line : ℕ → ℕ → List ℕ
