@@ -1,6 +1,7 @@
 // Digests one record that comes on standard input, and says what it does. docs/DIGEST.md has the form of the input.
 #![tactic(auto)]
 
+mod explained;
 mod input;
 mod report;
 

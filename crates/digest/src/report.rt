@@ -1,25 +1,12 @@
+ghost use Rattle.std.specs.Prelude.{◌≡◌, Some};
+ghost use Rattle.rpo_kinds.specs.Names.{name_of};
+
+use crate::explained::{Blocks, Filling, sizes_of};
 use console::output::{Named, Refused};
 use kinds::kind::Kind;
 use rpo_kinds::names::KindName;
 use sponge::digest::digest;
 use std::io;
-
-// What is done to a record of that length.
-fn explain<K: Kind>(rt: &impl Print, length: usize) -> io::Result<()> {
-    let rate = K::rate();
-    let over = length % rate;
-    let full = length / rate;
-    println!(rt; "record: {length} words, {full} full blocks of {rate}, {over} over")?;
-    if over == 0 {
-        println!(rt; "filling: none; capacity element 0 starts at 0")?;
-        println!(rt; "mixings: {full}")
-    } else {
-        let zeros = rate - over - 1;
-        let blocks = full.saturating_add(1);
-        println!(rt; "filling: one 1 and {zeros} zeros; capacity element 0 starts at 1")?;
-        println!(rt; "mixings: {blocks}")
-    }
-}
 
 // What is done to a record, and its digest; or why it has none.
 fn print_digest<K: Kind>(rt: &impl Print, kind: &K, words: &[u64]) -> io::Result<()> {
@@ -27,7 +14,12 @@ fn print_digest<K: Kind>(rt: &impl Print, kind: &K, words: &[u64]) -> io::Result
     let out = &mut room[..K::DIGEST];
     match digest(kind, words, out) {
         Ok(()) => {
-            explain::<K>(rt, words.len())?;
+            let blocks = Blocks {
+                length: words.len(),
+                rate: K::rate(),
+            };
+            println!(rt; "{blocks}")?;
+            println!(rt; "{}", Filling(blocks))?;
             let digest = Named {
                 name: "digest:",
                 words: out,
@@ -38,18 +30,15 @@ fn print_digest<K: Kind>(rt: &impl Print, kind: &K, words: &[u64]) -> io::Result
     }
 }
 
-// Digests a record, and prints what is done on the way.
+// Digests a record by the kind of that name, and prints what is done on the way.
 pub(crate) fn report<K: Kind>(
     rt: &impl Print,
     kind: &K,
     name: KindName,
     words: &[u64],
-) -> io::Result<()> {
-    let number = name.number();
-    let c = K::CAPACITY;
-    let w = K::DIGEST;
-    let r = K::rate();
-    let m = K::state_len();
-    println!(rt; "kind: {name}, number {number}, capacity {c}, digest {w}, rate {r}, state {m}")?;
+) -> io::Result<()>
+    requires { name_of K.NUMBER ≡ Some name }
+{
+    println!(rt; "kind: {name}, {}", sizes_of::<K>(name))?;
     print_digest(rt, kind, words)
 }
