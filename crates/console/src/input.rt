@@ -1,6 +1,7 @@
-ghost use Rattle.std.specs.Prelude.{◌≤◌, IfOk, IfErr, vec_len};
+ghost use Rattle.std.specs.Prelude.{◌≡◌, ◌≤◌, ◌⊎◌, IfOk, IfErr, vec_len};
 ghost use Rattle.std.specs.String.{string_vec};
 ghost use Rattle.console.specs.Numbers.{Appended, Refusal};
+ghost use Rattle.console.specs.declared.input.Unread.TheVariants.{Broken as broken, NoMemory as no_memory, NoText as no_text};
 
 use rpo_kinds::names::UnknownKind;
 use std::alloc::{AllocError, AllocFailed};
@@ -20,10 +21,7 @@ pub enum Unread {
 }
 
 impl From<AllocError> for Unread {
-    ghost use Rattle.std.specs.Prelude.{◌≡◌};
-    ghost use Rattle.console.specs.declared.input.Unread.TheVariants.{NoMemory};
-
-    ghost from_gives = { λ e why. why ≡ NoMemory };
+    ghost from_gives = { λ e r. r ≡ no_memory };
 
     fn from(_e: AllocError) -> Unread {
         Unread::NoMemory
@@ -31,10 +29,7 @@ impl From<AllocError> for Unread {
 }
 
 impl<T: Drop> From<AllocFailed<T>> for Unread {
-    ghost use Rattle.std.specs.Prelude.{◌≡◌};
-    ghost use Rattle.console.specs.declared.input.Unread.TheVariants.{NoMemory};
-
-    ghost from_gives = { λ e why. why ≡ NoMemory };
+    ghost from_gives = { λ e r. r ≡ no_memory };
 
     fn from(_e: AllocFailed<T>) -> Unread {
         Unread::NoMemory
@@ -42,6 +37,8 @@ impl<T: Drop> From<AllocFailed<T>> for Unread {
 }
 
 impl From<io::Error> for Unread {
+    ghost from_gives = { λ e r. (r ≡ no_memory) ⊎ (r ≡ broken) };
+
     fn from(e: io::Error) -> Unread {
         match e.kind() {
             ErrorKind::OutOfMemory => Unread::NoMemory,
@@ -57,6 +54,11 @@ impl From<UnknownKind> for Unread {
 }
 
 impl fmt::Display for Unread {
+    ghost use Rattle.std.specs.Prelude.{Some};
+    ghost use Rattle.console.specs.Unread.{unread_text};
+
+    ghost output = { λ why. Some (unread_text why) };
+
     fn fmt<W: fmt::Write>(&self, f: &mut fmt::Formatter<W>) -> fmt::Result {
         match self {
             Unread::Broken => write!(f, "standard input broke off"),
@@ -91,12 +93,20 @@ pub fn slurp(rt: &HostRuntime) -> Result<Vec<u8>, Unread>
     Ok(all)
 }
 
+// Bytes as a text.
+fn text_of(bytes: Vec<u8>) -> Result<String, Unread>
+    ensures text { IfOk result (λ text. string_vec text ≡ bytes) }
+    ensures refused { IfErr result (λ why. why ≡ no_text) }
+{
+    String::from_utf8(bytes).map_err(|_| Unread::NoText)
+}
+
 // All of standard input as a text.
 pub fn read_text(rt: &HostRuntime) -> Result<String, Unread>
     ensures { IfOk result (λ text. vec_len (string_vec text) ≤ 1048576) }
 {
     let bytes = slurp(rt)?;
-    String::from_utf8(bytes).map_err(|_| Unread::NoText)
+    text_of(bytes)
 }
 
 // The numbers of a text, after those that are there. `line` and `first` say where the text stands.

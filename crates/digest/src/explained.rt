@@ -1,7 +1,9 @@
 ghost use Rattle.std.specs.Prelude.{◌≡◌, ◌<◌, ◌+◌, ◌*◌, Some};
+ghost use Rattle.rpo_kinds.specs.Names.{name_of};
 ghost use Rattle.digest.specs.Explained.{sizes_text, blocks_text, filling_text};
 
 use kinds::kind::Kind;
+use rpo_kinds::names::KindName;
 use std::fmt;
 
 // The number of a kind and its sizes.
@@ -14,15 +16,15 @@ pub struct Sizes {
     pub state: usize,
 }
 
-pub(crate) fn sizes_of<K: Kind>() -> Sizes
-    ensures number { result.number ≡ K.NUMBER }
+pub(crate) fn sizes_of<K: Kind>(name: KindName) -> Sizes
+    ensures number { name_of result.number ≡ Some name }
     ensures capacity { result.capacity ≡ K.CAPACITY }
     ensures digest { result.digest ≡ K.DIGEST }
     ensures rate { result.rate ≡ 2 * K.DIGEST }
     ensures state { result.state ≡ K.CAPACITY + 2 * K.DIGEST }
 {
     Sizes {
-        number: K::NUMBER,
+        number: name.number(),
         capacity: K::CAPACITY,
         digest: K::DIGEST,
         rate: K::rate(),
