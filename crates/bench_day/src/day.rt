@@ -30,28 +30,47 @@ fn turn_any(rt: &impl Print, lot: AnyLot, command: &Command) -> io::Result<AnyLo
     })
 }
 
-// One line: a new lot of a kind, or a call of the lot in hand.
-fn line_of_day(rt: &HostRuntime, lot: AnyLot, line: usize, text: &str) -> Result<AnyLot, Unread> {
+// What a line asks for.
+#[derive(Drop)]
+enum Line {
+    Lot(KindName),
+    Call(Command),
+    // A clash is of no lot, and is answered as it is read.
+    Clash,
+}
+
+// Prints a line, with what is answered before the lot in hand is looked at.
+fn read_line(rt: &HostRuntime, line: usize, text: &str) -> Result<Line, Unread> {
     print!(rt; "{text}: ")?;
     if let Some(name) = text.strip_prefix("lot ") {
         let kind = name.parse::<KindName>()?;
         println!(rt; "ok")?;
-        return new_lot(rt, kind);
+        return Ok(Line::Lot(kind));
     }
     match parse_command(rt.alloc(), line, text)? {
         Command::Clash(told) => {
             print_clash(rt, &told)?;
-            Ok(lot)
+            Ok(Line::Clash)
         }
-        command => Ok(turn_any(rt, lot, &command)?),
+        command => Ok(Line::Call(command)),
+    }
+}
+
+// The lot in hand after a line: a new one of a kind, or the one before, called.
+fn lot_after(rt: &HostRuntime, lot: AnyLot, line: Line) -> Result<AnyLot, Unread> {
+    match line {
+        Line::Lot(kind) => new_lot(rt, kind),
+        Line::Call(command) => Ok(turn_any(rt, lot, &command)?),
+        Line::Clash => Ok(lot),
     }
 }
 
 // The lines of a text, one after the other. A text that names no kind runs at the drill kind.
 pub(crate) fn run(rt: &HostRuntime, text: &str) -> Result<(), Unread> {
     let mut lot = new_lot(rt, KindName::Drill)?;
-    for (i, line) in text.lines().enumerate() {
-        lot = line_of_day(rt, lot, i.saturating_add(1), line)?;
+    for (i, text) in text.lines().enumerate() {
+        let line = read_line(rt, i.saturating_add(1), text)?;
+        lot = lot_after(rt, lot, line)?;
     }
     Ok(())
 }
