@@ -1,11 +1,9 @@
 ghost use Rattle.std.specs.Prelude.{◌≡◌};
-ghost use Rattle.script.specs.Stages.{new_lot, started};
-ghost use Rattle.script.specs.Shown.{shown_started};
+ghost use Rattle.script.specs.Stages.{started};
+ghost use Rattle.script.specs.Shown.{shown_kind, shown_started};
 
 use crate::any::AnyLot;
-use kinds::denial::Denial;
 use kinds::drill::Drill;
-use kinds::kind::Kind;
 use lots::lot::Lot;
 use reader::fault::ScriptFault;
 use rpo_kinds::names::KindName;
@@ -21,14 +19,6 @@ pub struct Waiting {
     rpo160: Lot<Rpo160>,
 }
 
-// The lot, made anew.
-fn made<K: Kind + Drop>(mut lot: Lot<K>, depth: u8) -> Result<Lot<K>, Denial>
-    ensures { result ≡ new_lot K.DIGEST depth }
-{
-    lot.make(depth)?;
-    Ok(lot)
-}
-
 impl Waiting {
     pub(crate) fn new(heap: Global) -> Result<Waiting, AllocError> {
         let drill = Lot::new(heap, Drill)?;
@@ -41,20 +31,22 @@ impl Waiting {
         })
     }
 
+    // The lot of that kind; the other two go.
+    fn of_kind(self, name: KindName) -> AnyLot
+        ensures { (shown_kind result).0 ≡ name }
+    {
+        match name {
+            KindName::Drill => AnyLot::Drill(self.drill),
+            KindName::Rpo128 => AnyLot::Rpo128(self.rpo128),
+            KindName::Rpo160 => AnyLot::Rpo160(self.rpo160),
+        }
+    }
+
     // The lot that the start at that offset asks for.
     pub(crate) fn start(self, kind: u8, depth: u8, at: usize) -> Result<AnyLot, ScriptFault>
         ensures { shown_started result ≡ started kind depth at }
     {
-        let Waiting {
-            drill,
-            rpo128,
-            rpo160,
-        } = self;
         let name = KindName::try_from(kind).map_err(|_| ScriptFault::UnknownKind(at))?;
-        match name {
-            KindName::Drill => Ok(AnyLot::Drill(made(drill, depth)?)),
-            KindName::Rpo128 => Ok(AnyLot::Rpo128(made(rpo128, depth)?)),
-            KindName::Rpo160 => Ok(AnyLot::Rpo160(made(rpo160, depth)?)),
-        }
+        self.of_kind(name).made(depth)
     }
 }
