@@ -29,6 +29,13 @@ impl<const N: usize> Line<N> {
         }
     }
 
+    // No bytes again, in the same memory.
+    pub fn clear(&mut self)
+        ensures { self.new ≡ [] }
+    {
+        self.len = 0;
+    }
+
     pub fn as_bytes(&self) -> &[u8]
         ensures is { result.now ≡ self.now }
         ensures short { length result.now ≤ N }
@@ -55,13 +62,17 @@ impl<const N: usize> Line<N> {
         self.push_text(Buffer::new().format(n).as_bytes());
     }
 
-    // A space and the number.
+    // A space and the number. One digit needs no division, and most numbers of the drill kind have one.
     pub fn push_spaced_number(&mut self, n: u64)
         requires { length self.old + 21 ≤ N }
         ensures written { self.new ≡ self.old ++ spaced (decimal n) }
         ensures short { length self.new ≤ length self.old + 21 }
     {
-        self.push_text(b" ");
-        self.push_number(n);
+        if n < 10 {
+            self.push_text(&[b' ', b'0' + n as u8]);
+        } else {
+            self.push_text(b" ");
+            self.push_number(n);
+        }
     }
 }

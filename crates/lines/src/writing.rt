@@ -11,29 +11,28 @@ pub enum Heading {
     Path,
 }
 
-pub fn ok_line<const N: usize>() -> Line<N>
+// Each of these calls makes a line anew in the memory that it is lent, since a line by value would be moved whole.
+pub fn ok_line<const N: usize>(line: &mut Line<N>)
     requires { 3 ≤ N }
-    ensures is { result ≡ ok_line }
-    ensures short { length result ≤ 3 }
+    ensures is { line.new ≡ ok_line }
+    ensures short { length line.new ≤ 3 }
 {
-    let mut line = Line::new();
+    line.clear();
     line.push_text(b"ok\n");
-    line
 }
 
 // A word and numbers.
-pub fn numbers_line<const N: usize>(word: &[u8], numbers: &[u64]) -> Line<N>
+pub fn numbers_line<const N: usize>(word: &[u8], numbers: &[u64], line: &mut Line<N>)
     requires { length word.now + 21 * length numbers.now + 1 ≤ N }
-    ensures is { result ≡ numbers_line word.now numbers.now }
-    ensures short { length result ≤ length word.now + 21 * length numbers.now + 1 }
+    ensures is { line.new ≡ numbers_line word.now numbers.now }
+    ensures short { length line.new ≤ length word.now + 21 * length numbers.now + 1 }
 {
-    let mut line = Line::new();
+    line.clear();
     line.push_text(word);
     for n in numbers {
         line.push_spaced_number(*n);
     }
     line.push_text(b"\n");
-    line
 }
 
 impl Heading {
@@ -48,27 +47,26 @@ impl Heading {
     }
 
     // The line of the numbers.
-    pub fn line<const N: usize>(self, numbers: &[u64]) -> Line<N>
+    pub fn line<const N: usize>(self, numbers: &[u64], line: &mut Line<N>)
         requires { 21 * length numbers.now + 5 ≤ N }
-        ensures is { result ≡ numbers_line (heading_word self) numbers.now }
-        ensures short { length result ≤ 21 * length numbers.now + 5 }
+        ensures is { line.new ≡ numbers_line (heading_word self) numbers.now }
+        ensures short { length line.new ≤ 21 * length numbers.now + 5 }
     {
-        numbers_line(self.word(), numbers)
+        numbers_line(self.word(), numbers, line);
     }
 }
 
 // A refusal: its number, its layer, and the offset of the command.
-pub fn no_line<const N: usize>(number: u8, layer: Layer, offset: usize) -> Line<N>
+pub fn no_line<const N: usize>(number: u8, layer: Layer, offset: usize, refusal: &mut Line<N>)
     requires { 53 ≤ N }
-    ensures is { result ≡ no_line number layer offset }
-    ensures short { length result ≤ 53 }
+    ensures is { refusal.new ≡ no_line number layer offset }
+    ensures short { length refusal.new ≤ 53 }
 {
-    let mut refusal = Line::new();
+    refusal.clear();
     refusal.push_text(b"no");
     refusal.push_spaced_number(number as u64);
     refusal.push_text(b" ");
     refusal.push_text(layer.word().as_bytes());
     refusal.push_spaced_number(offset as u64);
     refusal.push_text(b"\n");
-    refusal
 }

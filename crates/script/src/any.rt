@@ -46,15 +46,15 @@ impl AnyLot {
         })
     }
 
-    // Runs a command that is in its phase, and gives its line.
-    pub(crate) fn fill(&mut self, order: Order, at: usize) -> ScriptLine
+    // Runs a command that is in its phase, and writes its line.
+    pub(crate) fn fill(&mut self, order: Order, at: usize, line: &mut ScriptLine)
         ensures after { shown_kind self.new ≡ (any_filled (shown_kind self.old) order at).0 }
-        ensures line { result ≡ (any_filled (shown_kind self.old) order at).1 }
+        ensures line { line.new ≡ (any_filled (shown_kind self.old) order at).1 }
     {
         match self {
-            AnyLot::Drill(lot) => fill(lot, order, at),
-            AnyLot::Rpo128(lot) => fill(lot, order, at),
-            AnyLot::Rpo160(lot) => fill(lot, order, at),
+            AnyLot::Drill(lot) => fill(lot, order, at, line),
+            AnyLot::Rpo128(lot) => fill(lot, order, at, line),
+            AnyLot::Rpo160(lot) => fill(lot, order, at, line),
         }
     }
 
@@ -70,14 +70,14 @@ impl AnyLot {
 }
 
 impl AnyClosed {
-    // Runs a command that is in its phase, and gives its line.
-    pub(crate) fn ask(&self, order: Order, at: usize) -> ScriptLine
-        ensures { result ≡ any_asked (shown_kind self.now) order at }
+    // Runs a command that is in its phase, and writes its line.
+    pub(crate) fn ask(&self, order: Order, at: usize, line: &mut ScriptLine)
+        ensures { line.new ≡ any_asked (shown_kind self.now) order at }
     {
         match self {
-            AnyClosed::Drill(lot) => ask(lot, order, at),
-            AnyClosed::Rpo128(lot) => ask(lot, order, at),
-            AnyClosed::Rpo160(lot) => ask(lot, order, at),
+            AnyClosed::Drill(lot) => ask(lot, order, at, line),
+            AnyClosed::Rpo128(lot) => ask(lot, order, at, line),
+            AnyClosed::Rpo160(lot) => ask(lot, order, at, line),
         }
     }
 }

@@ -1,4 +1,4 @@
-ghost use Rattle.std.specs.Prelude.{◌≡◌, IfOk};
+ghost use Rattle.std.specs.Prelude.{◌≡◌, ℕ, List, IfOk};
 ghost use Rattle.reader.specs.Commands.{told, all_told};
 ghost use Rattle.script.specs.Runs.{Run, fresh, next_command, turn, next_line, Promised};
 ghost use Rattle.script.specs.Shown.{shown_stage};
@@ -23,6 +23,8 @@ pub struct Runner<'a> {
     script: &'a [u8],
     at: usize,
     stage: Stage,
+    // The line in hand, whose memory is used anew for each.
+    line: ScriptLine,
 }
 
 // Clauses see the run that it has in hand.
@@ -30,6 +32,31 @@ impl<'a> Model for Runner<'a> {
     ghost Value = { Run };
 
     ghost view = { λ r. record { script = r.script.now; at = r.at; stage = shown_stage r.stage } };
+}
+
+// Runs a command, or ends the reading at a fault of the script, and makes the line of it.
+#[tactic(auto, unfolding(crate::specs::Runs::turn))]
+fn turn(
+    at: &mut usize,
+    stage: &mut Stage,
+    next: Result<(Command<'_>, usize), ScriptFault>,
+    line: &mut ScriptLine,
+)
+    ensures after { (script : List ℕ) → record { script = script; at = at.new; stage = shown_stage stage.new } ≡ (turn (record { script = script; at = at.old; stage = shown_stage stage.old }) (told next.entry)).0 }
+    ensures line { (script : List ℕ) → line.new ≡ (turn (record { script = script; at = at.old; stage = shown_stage stage.old }) (told next.entry)).1 }
+{
+    let here = *at;
+    let answer = match next {
+        Ok((command, after)) => {
+            *at = after;
+            stage.act(Order::from(command), here, line)
+        }
+        Err(fault) => {
+            *stage = Stage::Ended;
+            Err(fault)
+        }
+    };
+    answer_line(answer, here, line);
 }
 
 impl<'a> Runner<'a> {
@@ -42,6 +69,7 @@ impl<'a> Runner<'a> {
             script,
             at: 0,
             stage: Stage::Before(lots),
+            line: ScriptLine::new(),
         })
     }
 
@@ -62,26 +90,6 @@ impl<'a> Runner<'a> {
         }
     }
 
-    // The line of a command, or of a fault of the script, which ends the reading.
-    #[tactic(auto, unfolding(crate::specs::Runs::turn))]
-    fn turn(&mut self, next: Result<(Command<'_>, usize), ScriptFault>) -> ScriptLine
-        ensures after { self.new ≡ (turn self.old (told next.entry)).0 }
-        ensures line { result ≡ (turn self.old (told next.entry)).1 }
-    {
-        let at = self.at;
-        let answer = match next {
-            Ok((command, after)) => {
-                self.at = after;
-                self.stage.act(Order::from(command), at)
-            }
-            Err(fault) => {
-                self.stage = Stage::Ended;
-                Err(fault)
-            }
-        };
-        answer_line(answer, at)
-    }
-
     // Writes the next line, and answers how long it is; none where no command is left.
     pub fn next_line(&mut self, out: &mut [u8]) -> Result<Option<usize>, Denial>
         ensures exact { (self.new, out.new, result) ≡ next_line self.old out.old }
@@ -93,8 +101,8 @@ impl<'a> Runner<'a> {
         let Some(next) = self.next_command() else {
             return Ok(None);
         };
-        let line = self.turn(next);
-        let bytes = line.as_bytes();
+        turn(&mut self.at, &mut self.stage, next, &mut self.line);
+        let bytes = self.line.as_bytes();
         out[..bytes.len()].copy_from_slice(bytes);
         Ok(Some(bytes.len()))
     }

@@ -1,5 +1,5 @@
 ghost use Rattle.std.specs.Prelude.{◌≡◌};
-ghost use Rattle.turns.specs.Answers.{line_told};
+ghost use Rattle.turns.specs.Answers.{line_left, line_told};
 ghost use Rattle.script.specs.Stages.{act, start_in, close_in, run_in, phase_in};
 ghost use Rattle.script.specs.Shown.{shown_stage};
 
@@ -34,53 +34,67 @@ impl Stage {
         }
     }
 
-    fn start(&mut self, kind: u8, depth: u8, at: usize) -> Result<ScriptLine, ScriptFault>
+    fn start(
+        &mut self,
+        kind: u8,
+        depth: u8,
+        at: usize,
+        line: &mut ScriptLine,
+    ) -> Result<(), ScriptFault>
         ensures after { shown_stage self.new ≡ (start_in (shown_stage self.old) kind depth at).0 }
-        ensures line { line_told result at ≡ (start_in (shown_stage self.old) kind depth at).1 }
+        ensures line { line_told (line_left result line.new) at ≡ (start_in (shown_stage self.old) kind depth at).1 }
     {
         let Stage::Before(lots) = mem::replace(self, Stage::Ended) else {
             return Err(ScriptFault::OutOfPhase(at));
         };
         *self = Stage::Filling(lots.start(kind, depth, at)?);
-        Ok(ok_line())
+        ok_line(line);
+        Ok(())
     }
 
-    fn close(&mut self, at: usize) -> Result<ScriptLine, ScriptFault>
+    fn close(&mut self, at: usize, line: &mut ScriptLine) -> Result<(), ScriptFault>
         ensures after { shown_stage self.new ≡ (close_in (shown_stage self.old) at).0 }
-        ensures line { line_told result at ≡ (close_in (shown_stage self.old) at).1 }
+        ensures line { line_told (line_left result line.new) at ≡ (close_in (shown_stage self.old) at).1 }
     {
         let Stage::Filling(lot) = mem::replace(self, Stage::Ended) else {
             return Err(ScriptFault::OutOfPhase(at));
         };
         *self = Stage::Closed(lot.close());
-        Ok(ok_line())
+        ok_line(line);
+        Ok(())
     }
 
     // A command that leaves the phase as it is.
-    fn run(&mut self, order: Order, at: usize) -> Result<ScriptLine, ScriptFault>
+    fn run(&mut self, order: Order, at: usize, line: &mut ScriptLine) -> Result<(), ScriptFault>
         ensures after { shown_stage self.new ≡ (run_in (shown_stage self.old) order at).0 }
-        ensures line { line_told result at ≡ (run_in (shown_stage self.old) order at).1 }
+        ensures line { line_told (line_left result line.new) at ≡ (run_in (shown_stage self.old) order at).1 }
     {
         match self {
-            Stage::Filling(lot) => Ok(lot.fill(order, at)),
-            Stage::Closed(lot) => Ok(lot.ask(order, at)),
+            Stage::Filling(lot) => lot.fill(order, at, line),
+            Stage::Closed(lot) => lot.ask(order, at, line),
             _ => {
                 *self = Stage::Ended;
-                Err(ScriptFault::OutOfPhase(at))
+                return Err(ScriptFault::OutOfPhase(at));
             }
         }
+        Ok(())
     }
 
     // Runs a command that is in its phase.
     #[tactic(auto, unfolding(crate::specs::Stages::act))]
-    pub(crate) fn act(&mut self, order: Order, at: usize) -> Result<ScriptLine, ScriptFault>
+    pub(crate) fn act(
+        &mut self,
+        order: Order,
+        at: usize,
+        line: &mut ScriptLine,
+    ) -> Result<(), ScriptFault>
         ensures after { shown_stage self.new ≡ (act (shown_stage self.old) order at).0 }
-        ensures line { line_told result at ≡ (act (shown_stage self.old) order at).1 }
+        ensures line { line_told (line_left result line.new) at ≡ (act (shown_stage self.old) order at).1 }
     {
         match order {
-            Order::Start { kind, depth } => self.start(kind, depth, at),
-            Order::Close => self.close(at),
-            _ => self.run(order, at),
+            Order::Start { kind, depth } => self.start(kind, depth, at, line),
+            Order::Close => self.close(at, line),
+            _ => self.run(order, at, line),
         }
     }
 }

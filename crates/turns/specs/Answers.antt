@@ -40,6 +40,11 @@ abbrev pub line_told : Result (List ℕ) ScriptFault → ℕ → List ℕ
 line_told (Ok line) at = line
 line_told (Err f) at = fault_line f at
 
+-- the line that a command left, where it met no fault
+abbrev pub line_left : Result (Unit {0}) ScriptFault → List ℕ → Result (List ℕ) ScriptFault
+line_left (Ok done) line = Ok line
+line_left (Err f) line = Err f
+
 -- the line of a call that leaves numbers in a buffer
 abbrev pub numbers_told : Heading → Answer × List ℕ → ℕ → List ℕ
 numbers_told heading x at = answer_line x.0 (numbers_line (heading_word heading) x.1) at

@@ -1,6 +1,6 @@
 ghost use Rattle.std.specs.Prelude.{◌≡◌, ◌≤◌, replicate};
 ghost use Rattle.std.specs.Fn.{FnOnceReturnsAtMut};
-ghost use Rattle.turns.specs.Answers.{offset_of, fault_line, line_told, Written};
+ghost use Rattle.turns.specs.Answers.{offset_of, fault_line, line_left, line_told, Written};
 
 use kinds::denial::Denial;
 use lines::line::Line;
@@ -20,17 +20,19 @@ fn offset_of(fault: ScriptFault, at: usize) -> usize
     }
 }
 
-pub fn fault_line(fault: ScriptFault, at: usize) -> ScriptLine
-    ensures { result ≡ fault_line fault at }
+pub fn fault_line(fault: ScriptFault, at: usize, line: &mut ScriptLine)
+    ensures { line.new ≡ fault_line fault at }
 {
-    no_line(fault.number(), fault.layer(), offset_of(fault, at))
+    no_line(fault.number(), fault.layer(), offset_of(fault, at), line);
 }
 
-// The line of a command: its own, or that of the fault in its place.
-pub fn answer_line(answer: Result<ScriptLine, ScriptFault>, at: usize) -> ScriptLine
-    ensures { result ≡ line_told answer at }
+// The line of a command: its own, which is there, or that of the fault in its place.
+pub fn answer_line(answer: Result<(), ScriptFault>, at: usize, line: &mut ScriptLine)
+    ensures { line.new ≡ line_told (line_left answer line.old) at }
 {
-    answer.unwrap_or_else(|fault| fault_line(fault, at))
+    if let Err(fault) = answer {
+        fault_line(fault, at, line);
+    }
 }
 
 // The line of the numbers that a call writes: a path of at most 8 digests of at most 5 words, or a digest.
@@ -38,13 +40,15 @@ pub(crate) fn written<F: FnOnce(&mut [u64]) -> Result<(), Denial>>(
     heading: Heading,
     count: usize,
     write: F,
-) -> Result<ScriptLine, ScriptFault>
+    line: &mut ScriptLine,
+) -> Result<(), ScriptFault>
     requires short { count ≤ 40 }
     requires callable { F.IsAlwaysCallable write }
-    ensures { Written (λ answer words. FnOnceReturnsAtMut F.FnOnce write (replicate count 0) answer words) heading result }
+    ensures { Written (λ answer words. FnOnceReturnsAtMut F.FnOnce write (replicate count 0) answer words) heading (line_left result line.new) }
 {
     let mut zeros = [0; 40];
     let words = &mut zeros[..count];
     write(words)?;
-    Ok(heading.line(words))
+    heading.line(words, line);
+    Ok(())
 }

@@ -1,5 +1,5 @@
 ghost use Rattle.std.specs.Prelude.{◌≡◌};
-ghost use Rattle.turns.specs.Answers.{line_told};
+ghost use Rattle.turns.specs.Answers.{line_left, line_told};
 ghost use Rattle.turns.specs.Turns.{filled};
 
 use crate::answers::{ScriptLine, answer_line, written};
@@ -11,9 +11,14 @@ use reader::orders::Order;
 
 // Runs a command that is in its phase.
 #[tactic(auto, unfolding(crate::specs::Turns::filled))]
-fn try_fill<K: Kind>(lot: &mut Lot<K>, order: Order, at: usize) -> Result<ScriptLine, ScriptFault>
+fn try_fill<K: Kind>(
+    lot: &mut Lot<K>,
+    order: Order,
+    at: usize,
+    line: &mut ScriptLine,
+) -> Result<(), ScriptFault>
     ensures after { lot.new ≡ (filled K.CAPACITY K.DIGEST K.mapping lot.old order at).0 }
-    ensures line { line_told result at ≡ (filled K.CAPACITY K.DIGEST K.mapping lot.old order at).1 }
+    ensures line { line_told (line_left result line.new) at ≡ (filled K.CAPACITY K.DIGEST K.mapping lot.old order at).1 }
 {
     let answer = match order {
         Order::Begin {
@@ -26,17 +31,19 @@ fn try_fill<K: Kind>(lot: &mut Lot<K>, order: Order, at: usize) -> Result<Script
         Order::Seal { station } => lot.seal(station),
         Order::Abandon { station } => lot.abandon(station),
         Order::Clear { place } => lot.clear(place),
-        Order::Root => return written(Heading::Root, K::DIGEST, |out| lot.root(out)),
+        Order::Root => return written(Heading::Root, K::DIGEST, |out| lot.root(out), line),
         _ => return Err(ScriptFault::OutOfPhase(at)),
     };
     answer?;
-    Ok(ok_line())
+    ok_line(line);
+    Ok(())
 }
 
 // The same, with the line of a refusal in place of the error.
-pub fn fill<K: Kind>(lot: &mut Lot<K>, order: Order, at: usize) -> ScriptLine
+pub fn fill<K: Kind>(lot: &mut Lot<K>, order: Order, at: usize, line: &mut ScriptLine)
     ensures after { lot.new ≡ (filled K.CAPACITY K.DIGEST K.mapping lot.old order at).0 }
-    ensures line { result ≡ (filled K.CAPACITY K.DIGEST K.mapping lot.old order at).1 }
+    ensures line { line.new ≡ (filled K.CAPACITY K.DIGEST K.mapping lot.old order at).1 }
 {
-    answer_line(try_fill(lot, order, at), at)
+    let answer = try_fill(lot, order, at, line);
+    answer_line(answer, at, line);
 }

@@ -5,7 +5,7 @@ use Rattle.lines.proofs.writing.no_line.Goals as goal
 
 pub returns-clause-is : goal.returns-clause-is
 returns-clause-is g c =
-    let a = rw (c.new-refusal.ensures) at c.push_text.ensures in
+    let a = rw (c.clear.ensures) at c.push_text.ensures in
     let b = rw a at c.push_spaced_number.ensures.written in
     let d = rw b at c.push_text-2.ensures in
     let e = rw (d, c.as_bytes.ensures.value, c.word.ensures) at c.push_text-3.ensures in
