@@ -43,12 +43,14 @@ impl Station {
     pub(crate) fn feed<K: Kind>(&mut self, kind: &K, words: &[u64]) -> Result<(), Denial>
         ensures { (shown K.CAPACITY K.DIGEST self.new, told result) ≡ feed_step K.CAPACITY K.DIGEST K.mapping words.now (shown K.CAPACITY K.DIGEST self.old) }
     {
-        match self.phase {
+        match &mut self.phase {
             Phase::Idle => Err(Denial::StationIdle),
-            Phase::Filling(record) | Phase::Full(record) => {
-                let mut fed = record;
-                fed.feed(kind, words)?;
-                self.phase = fed.phase();
+            Phase::Full(record) => record.feed(kind, words),
+            Phase::Filling(record) => {
+                record.feed(kind, words)?;
+                if record.got >= record.length {
+                    self.phase = Phase::Full(*record);
+                }
                 Ok(())
             }
         }
