@@ -14,7 +14,8 @@ use std::io;
 #[derive(Drop)]
 pub enum LotInHand<K: Kind> {
     Filling(Lot<K>),
-    Closed(ClosedLot<K>),
+    // With the depth whose paths the day makes room for: the lot's own, until a make that is refused names another.
+    Closed(ClosedLot<K>, u8),
 }
 
 fn print_answer(rt: &impl Print, answer: Result<(), Denial>) -> io::Result<()> {
@@ -58,19 +59,27 @@ fn fill<K: Kind>(rt: &impl Print, lot: &mut Lot<K>, command: &Command) -> io::Re
     print_answer(rt, answer)
 }
 
+// How many words a path has at a depth that a lot can have.
+fn path_words<K: Kind>(depth: u8) -> usize
+    ensures { result ≤ 64 }
+{
+    depth.min(8) as usize * K::DIGEST
+}
+
 // Opens a place of a closed lot, and checks the opening under the lot's root.
 fn verify<K: Kind>(
     kind: &K,
     lot: &ClosedLot<K>,
+    depth: u8,
     place: u16,
     claim: Option<&[u64]>,
 ) -> Result<bool, Denial> {
     let (mut root, mut path) = ([0u64; 16], [0u64; 64]);
     let root = &mut root[..K::DIGEST];
-    let path = &mut path[..lot.depth() * K::DIGEST];
+    let path = &mut path[..path_words::<K>(depth)];
     lot.root(root)?;
     lot.open(place, path)?;
-    check(kind, root, lot.depth() as u8, place, claim, path)
+    check(kind, root, depth, place, claim, path)
 }
 
 // A call of a closed lot.
@@ -78,19 +87,28 @@ fn ask<K: Kind>(
     rt: &impl Print,
     kind: &K,
     lot: &ClosedLot<K>,
+    depth: u8,
     command: &Command,
 ) -> io::Result<()> {
     match command {
         Command::Root => print_written(rt, "root", K::DIGEST, |out| lot.root(out)),
         Command::Open(place) => {
-            let n = lot.depth() * K::DIGEST;
+            let n = path_words::<K>(depth);
             print_written(rt, "path", n, |out| lot.open(*place, out))
         }
         Command::Check(place, record) => {
-            let checked = Checked(verify(kind, lot, *place, record.as_deref()));
+            let checked = Checked(verify(kind, lot, depth, *place, record.as_deref()));
             println!(rt; "{checked}")
         }
         _ => println!(rt; "not once the lot is closed"),
+    }
+}
+
+// The depth of a command that makes a lot which there can be; else the one before.
+fn depth_after(depth: u8, command: &Command) -> u8 {
+    match command {
+        Command::Make(named) if *named <= 8 => *named,
+        _ => depth,
     }
 }
 
@@ -103,7 +121,10 @@ fn answer<K: Kind>(
 ) -> io::Result<()> {
     match lot {
         LotInHand::Filling(l) => fill(rt, l, command),
-        LotInHand::Closed(l) => ask(rt, kind, l, command),
+        LotInHand::Closed(l, depth) => {
+            *depth = depth_after(*depth, command);
+            ask(rt, kind, l, *depth, command)
+        }
     }
 }
 
@@ -111,8 +132,12 @@ fn answer<K: Kind>(
 fn close<K: Kind + Drop>(lot: LotInHand<K>) -> LotInHand<K> {
     promises::<K>();
     match lot {
-        LotInHand::Filling(l) => LotInHand::Closed(l.close()),
-        LotInHand::Closed(l) => LotInHand::Closed(l),
+        LotInHand::Filling(l) => {
+            let closed = l.close();
+            let depth = closed.depth() as u8;
+            LotInHand::Closed(closed, depth)
+        }
+        closed => closed,
     }
 }
 
