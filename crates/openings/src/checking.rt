@@ -11,6 +11,9 @@ use crate::words::{admit_words, words_of};
 use kinds::denial::Denial;
 use kinds::kind::Kind;
 
+// The deepest tree, as a depth that is admitted says of itself.
+pub const DEEPEST: usize = 8;
+
 // Whether an opening, a claim with its path, belongs to a root.
 pub fn check<'a, K: Kind>(
     kind: &K,
